@@ -1,0 +1,3 @@
+pub mod Feistel
+pub mod Filling
+pub mod Turns

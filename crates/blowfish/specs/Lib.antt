@@ -1,0 +1,3 @@
+pub mod Blowfish
+pub mod Pi
+pub mod Schedule

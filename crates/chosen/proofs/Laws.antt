@@ -1,0 +1,34 @@
+-- The laws of a chosen cipher, from those of its parts.
+use mathlib.Core.List.{List}
+use mathlib.Core.Path.{_≡_, sym, subst}
+use Prim.Native.Nat.{ℕ}
+use lib.ListN.{length}
+use Rattle.blowfish.proofs.Feistel as blowfish
+use Rattle.cipher.specs.Blocks.{Inverse}
+use Rattle.cipher.proofs.Blocks.{inverse-triple}
+use Rattle.xtea.proofs.Cycles as xtea
+use Rattle.chosen.specs.declared.Chosen.{Chosen}
+use Rattle.chosen.specs.declared.Chosen.the-variants.{One, Three}
+use Rattle.chosen.specs.declared.Keyed.{Keyed}
+use Rattle.chosen.specs.declared.Keyed.the-variants.{Blowfish, Xtea}
+use Rattle.chosen.specs.Kinds.{keyedKind}
+use Rattle.chosen.specs.Meanings.{keyedEnc, keyedDec, takesOf, encUnderOf, decUnderOf, chosenEnc, chosenDec}
+
+pub keyed-inverse : (c : Keyed) → Inverse (keyedEnc c) (keyedDec c)
+keyed-inverse (Blowfish x) = blowfish.inverse x
+keyed-inverse (Xtea x) = xtea.inverse (x .key)
+
+pub chosen-inverse : (c : Chosen) → Inverse (chosenEnc c) (chosenDec c)
+chosen-inverse (One c) = keyed-inverse c
+chosen-inverse (Three t) =
+    inverse-triple (keyedEnc (t .first)) (keyedDec (t .first)) (keyedEnc (t .second)) (keyedDec (t .second)) (keyedEnc (t .third)) (keyedDec (t .third))
+    (keyed-inverse (t .first)) (keyed-inverse (t .second)) (keyed-inverse (t .third))
+
+-- s, with the key loaded, is t
+abbrev pub Loaded : Keyed → Keyed → List ℕ → Type 0
+Loaded s t key =
+    (takesOf s (length key) × (keyedEnc t ≡ encUnderOf s key) × (keyedDec t ≡ decUnderOf s key)) × (keyedKind t ≡ keyedKind s)
+
+-- a fact at the variant that s is holds at s
+pub loaded-at : (s t x : Keyed) (key : List ℕ) → s ≡ x → Loaded x t key → Loaded s t key
+loaded-at s t x key e h = subst (λ y. Loaded y t key) (sym e) h

@@ -1,0 +1,4 @@
+pub mod Blocks
+pub mod Bytes
+pub mod Undone
+pub mod Words

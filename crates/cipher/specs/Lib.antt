@@ -1,0 +1,5 @@
+pub mod Blocks
+pub mod Bytes
+pub mod Eights
+pub mod Rounds
+pub mod Words
