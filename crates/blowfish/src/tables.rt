@@ -2,7 +2,7 @@
 ghost use mathlib.Core.Path.{_≡_};
 ghost use Prim.Native.Nat.{_*_, _<_, _≤_};
 ghost use Rattle.cipher.specs.Eights.{eachOfFour};
-ghost use Rattle.blowfish.specs.Blowfish.{f as fOf, pword, turned, oddRound, evenRound, oddBack, evenBack, begun, exchanged, enciphering, deciphering};
+ghost use Rattle.blowfish.specs.Blowfish.{f as fOf, pword, turned, oddBack, evenBack, begun, exchanged, enciphering, deciphering};
 ghost use Rattle.blowfish.specs.Pi.{piP, piS};
 ghost use Rattle.blowfish.specs.Schedule.{initial};
 use crate::pi;
@@ -14,6 +14,16 @@ use cipher::block::Four;
 pub struct Blowfish {
     pub(crate) p: [[u32; 2]; 9],
     pub(crate) s: [[u32; 256]; 4],
+}
+
+/// The halves exchanged.
+fn exchange(block: Block) -> Block
+    ensures { λ r. ⌜ r ≡ exchanged block ⌝ }
+{
+    Block {
+        left: block.right,
+        right: block.left,
+    }
 }
 
 impl Blowfish {
@@ -62,38 +72,16 @@ impl Blowfish {
         }
     }
 
-    /// The round of the odd number i + 1.
-    fn odd(&self, i: usize, block: Block) -> Block
-        requires { ⌜ i < 18 ⌝ }
-        ensures { λ r. ⌜ r ≡ oddRound (now (self .entry)) i block ⌝ }
-    {
-        let left = block.left ^ self.word(i);
-        Block {
-            left,
-            right: block.right ^ self.f(left),
-        }
-    }
-
-    /// The round of the even number i + 1.
-    fn even(&self, i: usize, block: Block) -> Block
-        requires { ⌜ i < 18 ⌝ }
-        ensures { λ r. ⌜ r ≡ evenRound (now (self .entry)) i block ⌝ }
-    {
-        let right = block.right ^ self.word(i);
-        Block {
-            left: block.left ^ self.f(right),
-            right,
-        }
-    }
-
     /// The odd round undone.
     fn odd_back(&self, i: usize, block: Block) -> Block
         requires { ⌜ i < 18 ⌝ }
         ensures { λ r. ⌜ r ≡ oddBack (now (self .entry)) i block ⌝ }
     {
+        // f first, since the next round waits for it
+        let right = block.right ^ self.f(block.left);
         Block {
             left: block.left ^ self.word(i),
-            right: block.right ^ self.f(block.left),
+            right,
         }
     }
 
@@ -119,30 +107,12 @@ impl Blowfish {
         }
     }
 
-    /// What leaves after the last round: the right half first.
-    fn close(&self, n: usize, block: Block) -> Block
-        requires { ⌜ n ≤ 8 ⌝ }
-        ensures { λ r. ⌜ r ≡ exchanged (begun (now (self .entry)) (2 * n) block) ⌝ }
-    {
-        let x = self.begin(2 * n, block);
-        Block {
-            left: x.right,
-            right: x.left,
-        }
-    }
-
     /// What stood before a block left.
     fn open(&self, n: usize, block: Block) -> Block
         requires { ⌜ n ≤ 8 ⌝ }
         ensures { λ r. ⌜ r ≡ begun (now (self .entry)) (2 * n) (exchanged block) ⌝ }
     {
-        self.begin(
-            2 * n,
-            Block {
-                left: block.right,
-                right: block.left,
-            },
-        )
+        self.begin(2 * n, exchange(block))
     }
 
     /// One block through `n` pairs of rounds.
@@ -155,10 +125,7 @@ impl Blowfish {
         for i in 0..2 * n {
             x = self.turn(i, x);
         }
-        Block {
-            left: x.right,
-            right: x.left,
-        }
+        exchange(x)
     }
 
     /// One block back through `n` pairs of rounds.
@@ -178,25 +145,21 @@ impl Blowfish {
         requires { ⌜ n ≤ 8 ⌝ }
         ensures { λ r. ⌜ r ≡ eachOfFour (enciphering (now (self .entry)) n) blocks ⌝ }
     {
-        let mut first = blocks.first;
-        let mut second = blocks.second;
-        let mut third = blocks.third;
-        let mut fourth = blocks.fourth;
-        for j in 0..n {
-            first = self.odd(2 * j, first);
-            second = self.odd(2 * j, second);
-            third = self.odd(2 * j, third);
-            fourth = self.odd(2 * j, fourth);
-            first = self.even(2 * j + 1, first);
-            second = self.even(2 * j + 1, second);
-            third = self.even(2 * j + 1, third);
-            fourth = self.even(2 * j + 1, fourth);
+        let mut first = self.begin(0, blocks.first);
+        let mut second = self.begin(0, blocks.second);
+        let mut third = self.begin(0, blocks.third);
+        let mut fourth = self.begin(0, blocks.fourth);
+        for i in 0..2 * n {
+            first = self.turn(i, first);
+            second = self.turn(i, second);
+            third = self.turn(i, third);
+            fourth = self.turn(i, fourth);
         }
         Four {
-            first: self.close(n, first),
-            second: self.close(n, second),
-            third: self.close(n, third),
-            fourth: self.close(n, fourth),
+            first: exchange(first),
+            second: exchange(second),
+            third: exchange(third),
+            fourth: exchange(fourth),
         }
     }
 

@@ -12,7 +12,7 @@ use Rattle.chosen.specs.declared.Chosen.the-variants.{One, Three}
 use Rattle.chosen.specs.declared.Keyed.{Keyed}
 use Rattle.chosen.specs.declared.Keyed.the-variants.{Blowfish, Xtea}
 use Rattle.chosen.specs.Kinds.{keyedKind}
-use Rattle.chosen.specs.Meanings.{keyedEnc, keyedDec, takesOf, encUnderOf, decUnderOf, chosenEnc, chosenDec}
+use Rattle.chosen.specs.Meanings.{keyedEnc, keyedDec, Lengths, encUnder, decUnder, chosenEnc, chosenDec}
 
 pub keyed-inverse : (c : Keyed) → Inverse (keyedEnc c) (keyedDec c)
 keyed-inverse (Blowfish x) = blowfish.inverse x
@@ -27,7 +27,7 @@ chosen-inverse (Three t) =
 -- s, with the key loaded, is t
 abbrev pub Loaded : Keyed → Keyed → List ℕ → Type 0
 Loaded s t key =
-    (takesOf s (length key) × (keyedEnc t ≡ encUnderOf s key) × (keyedDec t ≡ decUnderOf s key)) × (keyedKind t ≡ keyedKind s)
+    (Lengths (keyedKind s) (length key) × (keyedEnc t ≡ encUnder (keyedKind s) key) × (keyedDec t ≡ decUnder (keyedKind s) key)) × (keyedKind t ≡ keyedKind s)
 
 -- a fact at the variant that s is holds at s
 pub loaded-at : (s t x : Keyed) (key : List ℕ) → s ≡ x → Loaded x t key → Loaded s t key

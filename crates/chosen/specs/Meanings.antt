@@ -1,7 +1,7 @@
 -- What a chosen cipher does, by cases.
 --   keyedEnc c, keyedDec c        E and D of a keyed cipher
---   takesOf c n                   it takes keys of n bytes
---   encUnderOf c, decUnderOf c    its E and D under a key
+--   Lengths k n                   ciphers of kind k take keys of n bytes
+--   encUnder k, decUnder k        E and D of a kind under a key
 --   chosenEnc c, chosenDec c      E and D of a chosen cipher; three in a row are first E, then D, then E
 --   Fresh k c                     c is of kind k, before any load: Blowfish at the tables of pi, XTEA under sixteen zero bytes
 use mathlib.Core.List.{List}
@@ -29,17 +29,21 @@ abbrev pub keyedDec : Keyed → Block → Block
 keyedDec (Blowfish x) b = blowfish.deciphered x b
 keyedDec (Xtea x) b = xtea.deciphered (x .key) b
 
-abbrev pub takesOf : Keyed → ℕ → Type 0
-takesOf (Blowfish _) n = Takes n
-takesOf (Xtea _) n = n ≡ 16
+-- the lengths of key that a kind takes; a triple takes none
+abbrev pub Lengths : Kind → ℕ → Type 0
+Lengths kind.Blowfish n = Takes n
+Lengths kind.Xtea n = n ≡ 16
+Lengths kind.Triple n = ⊥
 
-abbrev pub encUnderOf : Keyed → List ℕ → Block → Block
-encUnderOf (Blowfish _) key b = blowfish.enciphered (scheduled initial key) b
-encUnderOf (Xtea _) key b = xtea.enciphered (keyWords key) b
+abbrev pub encUnder : Kind → List ℕ → Block → Block
+encUnder kind.Blowfish key b = blowfish.enciphered (scheduled initial key) b
+encUnder kind.Xtea key b = xtea.enciphered (keyWords key) b
+encUnder kind.Triple key b = b
 
-abbrev pub decUnderOf : Keyed → List ℕ → Block → Block
-decUnderOf (Blowfish _) key b = blowfish.deciphered (scheduled initial key) b
-decUnderOf (Xtea _) key b = xtea.deciphered (keyWords key) b
+abbrev pub decUnder : Kind → List ℕ → Block → Block
+decUnder kind.Blowfish key b = blowfish.deciphered (scheduled initial key) b
+decUnder kind.Xtea key b = xtea.deciphered (keyWords key) b
+decUnder kind.Triple key b = b
 
 abbrev pub chosenEnc : Chosen → Block → Block
 chosenEnc (One c) b = keyedEnc c b

@@ -6,7 +6,7 @@ ghost use mathlib.Core.Path.{_≡_};
 ghost use lib.ListN.{length};
 ghost use Rattle.refusal.specs.Refusals.{Answers};
 ghost use Rattle.chosen.specs.Kinds.{kindName, keyedKind, chosenKind};
-ghost use Rattle.chosen.specs.Meanings.{keyedEnc, keyedDec, chosenEnc, chosenDec, takesOf, encUnderOf, decUnderOf, Fresh};
+ghost use Rattle.chosen.specs.Meanings.{keyedEnc, keyedDec, chosenEnc, chosenDec, Lengths, encUnder as encKeyed, decUnder as decKeyed, Fresh};
 use blowfish::Blowfish;
 use blowfish::BlowfishCipher;
 use blowfish::BlowfishKeyed;
@@ -100,18 +100,18 @@ pub impl BlockCipher for Keyed as KeyedBlock {
 }
 
 pub impl KeyedCipher for Keyed as KeyedLoads {
-    ghost takes = { takesOf };
+    ghost takes = { λ c. Lengths (keyedKind c) };
 
-    ghost encUnder = { encUnderOf };
+    ghost encUnder = { λ c. encKeyed (keyedKind c) };
 
-    ghost decUnder = { decUnderOf };
+    ghost decUnder = { λ c. decKeyed (keyedKind c) };
 
     fn load_key(&mut self, key: &[u8]) -> Result<(), Refusal>
         ensures loads { λ r. ⌜ Answers r
-            (λ _. takesOf (now (self .entry)) (length (now (key .entry)))
-            × (keyedEnc (now (self .exit)) ≡ encUnderOf (now (self .entry)) (now (key .entry)))
-            × (keyedDec (now (self .exit)) ≡ decUnderOf (now (self .entry)) (now (key .entry))))
-            (λ n. (n ≡ 16) × (takesOf (now (self .entry)) (length (now (key .entry))) → ⊥) × (now (self .exit) ≡ now (self .entry))) ⌝ }
+            (λ _. Lengths (keyedKind (now (self .entry))) (length (now (key .entry)))
+            × (keyedEnc (now (self .exit)) ≡ encKeyed (keyedKind (now (self .entry))) (now (key .entry)))
+            × (keyedDec (now (self .exit)) ≡ decKeyed (keyedKind (now (self .entry))) (now (key .entry))))
+            (λ n. (n ≡ 16) × (Lengths (keyedKind (now (self .entry))) (length (now (key .entry))) → ⊥) × (now (self .exit) ≡ now (self .entry))) ⌝ }
         ensures kind { λ _. ⌜ keyedKind (now (self .exit)) ≡ keyedKind (now (self .entry)) ⌝ }
     {
         match *self {
@@ -136,6 +136,7 @@ pub enum Chosen {
 }
 
 impl Chosen {
+    /// The kind of cipher that it is.
     pub fn kind(&self) -> Kind
         ensures { λ r. ⌜ r ≡ chosenKind (now (self .entry)) ⌝ }
     {

@@ -1,10 +1,9 @@
 -- Blocks that are equal, and functions on blocks that undo each other.
-use mathlib.Core.Path.{_≡_, _∙_, ap}
-use Prim.Native.Nat.{ℕ}
+use mathlib.Core.Path.{_≡_, refl, _∙_, ap}
+use Prim.Native.Nat.{ℕ, zero, suc}
 use Rattle.cipher.specs.declared.block.Block.{Block}
 use Rattle.cipher.specs.Blocks.{Inverse}
 use Rattle.cipher.specs.Rounds.{rounds, unrounds}
-use Rattle.cipher.proofs.Undone as undone
 
 -- two blocks with equal words are equal
 pub same : (a b c d : ℕ) → a ≡ b → c ≡ d → _≡_ {A = Block} (record { left = a; right = c }) (record { left = b; right = d })
@@ -22,17 +21,10 @@ inverse-then E D F G first second =
 
 -- rounds are undone one by one
 pub inverse-rounds : (f g : ℕ → Block → Block) → ((i : ℕ) → Inverse (f i) (g i)) → (n : ℕ) → Inverse (rounds f n) (unrounds g n)
-inverse-rounds f g each n =
-    let f-sound = λ (i : ℕ). each i .enc-sound in
-    let g-sound = λ (i : ℕ). each i .dec-sound in
-    let g-f = λ (i : ℕ). each i .dec-enc in
-    let f-g = λ (i : ℕ). each i .enc-dec in
-    record {
-      enc-sound = undone.rounds-sound f g f-sound g-sound g-f f-g n;
-      dec-sound = undone.unrounds-sound f g f-sound g-sound g-f f-g n;
-      dec-enc = undone.unrounds-rounds f g f-sound g-sound g-f f-g n;
-      enc-dec = undone.rounds-unrounds f g f-sound g-sound g-f f-g n;
-    }
+inverse-rounds f g each zero =
+    record { enc-sound = λ b s. s; dec-sound = λ b s. s; dec-enc = λ b s. refl; enc-dec = λ b s. refl }
+inverse-rounds f g each (suc n) =
+    inverse-then (rounds f n) (unrounds g n) (f n) (g n) (inverse-rounds f g each n) (each n)
 
 -- D and E undo each other as E and D do
 pub inverse-flip : (E D : Block → Block) → Inverse E D → Inverse D E

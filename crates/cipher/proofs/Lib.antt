@@ -1,4 +1,3 @@
 pub mod Blocks
 pub mod Bytes
-pub mod Undone
 pub mod Words

@@ -1,6 +1,7 @@
 -- Words and blocks as bytes, big-endian, the left word first.
 --   word a b c d    the word of four bytes, the first one highest
 --   wordBytes w     the four bytes of a word
+--   wordAt xs i     the word whose bytes stand in xs from place i on
 --   blockAt xs i    the block whose bytes stand in xs from place i on
 --   blockOf xs      the block of the first eight bytes of xs
 --   bytesOf b       the eight bytes of a block

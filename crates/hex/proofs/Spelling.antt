@@ -4,6 +4,7 @@ use mathlib.Core.List.{List, [], _∷_, _++_, append-assoc}
 use mathlib.Core.Path.{_≡_, refl, sym, _∙_, ap, subst}
 use Prim.Native.Nat.{ℕ, zero, suc, _+_, _-_, _*_, _/_, _%_, _<_, _≤_}
 use native.Mathlib.Omega.{arith}
+use Rattle.std.proofs.shelf.Elements.{all-push}
 use Rattle.std.proofs.shelf.Ways.{tells}
 use Rattle.std.proofs.shelf.Lists.{take-more, take-more-set, length-set, take-set-le}
 use lib.Dec.{ltb}
@@ -74,6 +75,9 @@ read-more ds bs i v all n h e s =
     ∙ ap (λ x. take (2 * i) ds ++ spelled (x ∷ [])) e
     ∙ ap (λ xs. take (2 * i) ds ++ xs) (byte-back (getD ds (2 * i) 0) (getD ds (2 * i + 1) 0) (all (2 * i) (omega arith)) (all (2 * i + 1) (omega arith)))
     ∙ sym (two-more ds i (omega arith))
+
+pub bytes-more : (bs : List ℕ) (i v : ℕ) → i < length bs → v < 256 → Bytes (take i bs) → Bytes (take (i + 1) (set bs i v))
+bytes-more bs i v h k b = subst Bytes (sym (take-more-set bs i v h)) (all-push (λ x. x < 256) (take i bs) v b k)
 
 -- one byte more is spelled
 pub spell-more : (bs ds : List ℕ) (i p q : ℕ) → i < length bs → 2 * i + 1 < length ds

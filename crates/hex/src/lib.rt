@@ -8,7 +8,7 @@ ghost use lib.ListN.{length, getD};
 ghost use Rattle.std.specs.Options.{Cases};
 ghost use Rattle.std.specs.Orderings.{When};
 ghost use Rattle.cipher.specs.Bytes.{bytesOf};
-ghost use Rattle.hex.specs.Digits.{digitOf, spelled, Unspelt, NoBlock};
+ghost use Rattle.hex.specs.Digits.{digitOf, spelled, Bytes, Unspelt, NoBlock};
 ghost use Rattle.hex.specs.Worth.{worthOf, AllDigits, SomeOther};
 use cipher::block::Block;
 
@@ -38,7 +38,7 @@ fn all_digits(text: &[u8]) -> bool
 /// Reads digits into `bytes`, and answers whether they spell just so many bytes; if not, `bytes` is as it was.
 pub fn read(digits: &[u8], bytes: &mut [u8]) -> bool
     ensures { λ r. ⌜ When r
-        (spelled (now (bytes .exit)) ≡ now (digits .entry))
+        ((spelled (now (bytes .exit)) ≡ now (digits .entry)) × Bytes (now (bytes .exit)))
         (Unspelt (length (now (bytes .entry))) (now (digits .entry)) × (now (bytes .exit) ≡ now (bytes .entry))) ⌝ }
 {
     if digits.len() / 2 != bytes.len() || digits.len() % 2 != 0 {

@@ -5,6 +5,8 @@ ghost use mathlib.Core.Path.{_≡_};
 ghost use Prim.Native.Nat.{_≤_};
 ghost use lib.ListN.{length};
 ghost use Rattle.std.specs.Options.{Cases};
+ghost use Rattle.cipher.specs.Bytes.{bytesOf};
+ghost use Rattle.hex.specs.Digits.{spelled};
 ghost use Rattle.vector.specs.Lines.{Parted, Whole, Serves, Answered};
 ghost use Rattle.vector.specs.Replies.{replyBytes};
 
@@ -14,6 +16,7 @@ use blowfish::Blowfish;
 use blowfish::BlowfishCipher;
 use blowfish::BlowfishKeyed;
 use cipher::KeyedCipher;
+use cipher::block::Block;
 use cipher::encipher_under;
 pub use reply::Reply;
 use xtea::Xtea;
@@ -63,7 +66,14 @@ fn under<K: KeyedCipher>(cipher: &mut K, key: &mut [u8], line: &[u8]) -> Reply
         return Reply::Hyphen;
     }
     match encipher_under(cipher, key, block) {
-        Ok(enciphered) => Reply::Ciphertext(hex::spell_block(enciphered)),
+        Ok(enciphered) => ciphertext(enciphered),
         Err(_) => Reply::Hyphen,
     }
+}
+
+/// The digits of an enciphered block.
+fn ciphertext(block: Block) -> Reply
+    ensures { λ r. ⌜ replyBytes r ≡ spelled (bytesOf block) ⌝ }
+{
+    Reply::Ciphertext(hex::spell_block(block))
 }

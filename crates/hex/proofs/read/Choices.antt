@@ -1,8 +1,8 @@
 use mathlib.Core.Path.{_≡_}
 use Prim.Native.Nat.{_*_}
 use lib.ListN.{length, take}
-use Rattle.hex.specs.Digits.{spelled}
+use Rattle.hex.specs.Digits.{spelled, Bytes}
 use Rattle.hex.proofs.read.Given as given
 
 abbrev pub Inv-loop-i : given.InvT-loop-i
-Inv-loop-i l = spelled (take (l .i) (l .bytes)) ≡ take (2 * l .i) (l .digits)
+Inv-loop-i l = (spelled (take (l .i) (l .bytes)) ≡ take (2 * l .i) (l .digits)) × Bytes (take (l .i) (l .bytes))

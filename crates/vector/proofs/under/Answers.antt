@@ -3,7 +3,6 @@ use mathlib.Core.List.{_∷_, _++_}
 use Prim.Native.Nat.{ℕ, _<_}
 use borrow.Author.Needs.{needs}
 use lib.ListN.{length, getD}
-use Rattle.std.proofs.shelf.Elements.{all-from-getD}
 use Rattle.cipher.specs.Bytes.{bytesOf}
 use Rattle.hex.specs.Digits.{spelled, Bytes}
 use Rattle.vector.proofs.Lines.{foreign-whole, foreign-block, foreign-key, serves-foreign, serves-vector}
@@ -24,11 +23,11 @@ returns-in-Ok g c =
     serves-vector _ _ _ (c .read .last .bytes) (c .in-Some-read-block .block) (c .in-Ok .enciphered) _
     (
     record {
-      bytes = all-from-getD (λ b. b < 256) (c .read .last .bytes) 0 (λ i h. search needs);
+      bytes = c .if-not-read .ensures tt .1;
       long = search needs;
       sound = search needs;
-      written = c .in-Some .ensures tt .1 ∙ ap (λ xs. xs ++ (32 ∷ c .in-Some .text .now)) (sym (c .if-not-read .ensures tt))
+      written = c .in-Some .ensures tt .1 ∙ ap (λ xs. xs ++ (32 ∷ c .in-Some .text .now)) (sym (c .if-not-read .ensures tt .0))
           ∙ ap (λ xs. spelled (c .read .last .bytes) ++ (32 ∷ xs)) (sym (c .in-Some-read-block .ensures tt));
     }
     )
-    (c .in-Ok .ensures tt .1) (c .spell-block .ensures)
+    (c .in-Ok .ensures tt .1) (c .ciphertext .ensures)

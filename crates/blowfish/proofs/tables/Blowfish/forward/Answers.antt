@@ -1,4 +1,4 @@
-use mathlib.Core.Path.{_≡_}
+use mathlib.Core.Path.{_≡_, _∙_}
 use Prim.Native.Nat.{_*_}
 use native.Mathlib.Numerals.{add-one}
 use native.Mathlib.Omega.{arith}
@@ -11,4 +11,4 @@ loop-i-again c = rw add-one (cc)
 pub returns : need.returns
 returns c =
     let e : c .loop-i .i ≡ 2 * c .args .n = omega arith in
-    turns-are (c .args .self .now) (c .args .n) (c .args .block) _ (c .loop-i .x) (c .begin-x .ensures) (rw e at (c .loop-i .inv))
+    c .exchange .ensures ∙ turns-are (c .args .self .now) (c .args .n) (c .args .block) _ (c .loop-i .x) (c .begin-x .ensures) (rw e at (c .loop-i .inv))

@@ -1,0 +1,3 @@
+pub mod ByteWords
+pub mod Cutting
+pub mod Texts

@@ -1,0 +1,4 @@
+pub mod Calls
+pub mod Reasons
+pub mod Verbs
+pub mod Words

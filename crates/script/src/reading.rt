@@ -1,0 +1,179 @@
+//! Reads calls off lines.
+ghost use mathlib.Core.List.{List, _∷_, []};
+ghost use mathlib.Core.Path.{_≡_};
+ghost use Prim.Native.Nat.{ℕ};
+ghost use lib.Chars.{codes};
+ghost use Rattle.std.specs.Options.{Cases};
+ghost use Rattle.std.specs.Orderings.{Decides};
+ghost use Rattle.cipher.specs.Blocks.{Sound};
+ghost use Rattle.cipher.specs.Bytes.{bytesOf};
+ghost use Rattle.hex.specs.Digits.{spelled};
+ghost use Rattle.script.specs.Calls.{making, makingWords, NoMaking, ReadBytes, SpelledBytes, NoNameAndBlock, Takes, Reads};
+ghost use Rattle.script.specs.declared.verb.Verb.the-variants as V;
+ghost use Rattle.script.specs.Words.{words as wordsOf};
+use crate::call::Call;
+use crate::call::Make;
+use crate::unreadable::Unreadable;
+use crate::verb::Verb;
+use crate::words::word;
+use cipher::block::Block;
+use std::alloc::AllocError;
+use std::alloc::Global;
+use std::str::from_utf8;
+
+/// The one word that a line has, if it has just one.
+fn last_word(line: &[u8]) -> Option<&[u8]>
+    ensures { λ r. ⌜ Cases r ((w : List ℕ) → wordsOf (now (line .entry)) ≡ w ∷ [] → ⊥) (λ x. wordsOf (now (line .entry)) ≡ x .now ∷ []) ⌝ }
+{
+    let (first, rest) = word(line)?;
+    match word(rest) {
+        Some(_) => None,
+        None => Some(first),
+    }
+}
+
+/// The three words that a line has, if it has just three, as the parts of a triple.
+fn triple(line: &[u8]) -> Option<Make<'_>>
+    ensures { λ r. ⌜ Cases r ((a b c : List ℕ) → wordsOf (now (line .entry)) ≡ a ∷ b ∷ c ∷ [] → ⊥) (λ m. makingWords (making m) ≡ codes "triple" ∷ wordsOf (now (line .entry))) ⌝ }
+{
+    let (first, rest) = word(line)?;
+    let (second, rest) = word(rest)?;
+    let third = last_word(rest)?;
+    Some(Make::Triple(first, second, third))
+}
+
+/// What a cipher is to be made as, by the words after its name.
+fn make(line: &[u8]) -> Option<Make<'_>>
+    ensures { λ r. ⌜ Cases r (NoMaking (wordsOf (now (line .entry)))) (λ m. wordsOf (now (line .entry)) ≡ makingWords (making m)) ⌝ }
+{
+    let (kind, rest) = word(line)?;
+    let Ok(text) = from_utf8(kind) else {
+        return None;
+    };
+    match (text, word(rest)) {
+        ("blowfish", None) => Some(Make::Blowfish),
+        ("xtea", None) => Some(Make::Xtea),
+        ("triple", _) => triple(rest),
+        _ => None,
+    }
+}
+
+/// The bytes that a word says, if it says some: capital hexadecimal digits, or a hyphen for none.
+fn bytes(heap: Global, digits: &[u8]) -> Result<Option<Vec<u8>>, AllocError>
+    ensures { λ r. ⌜ ReadBytes (now (digits .entry)) r ⌝ }
+{
+    if digits.is_empty() {
+        return Ok(None);
+    }
+    if is_hyphen(digits) {
+        return Ok(Some(Vec::new(heap)));
+    }
+    digit_bytes(heap, digits)
+}
+
+/// Whether a word is a hyphen, which stands for no bytes.
+fn is_hyphen(word: &[u8]) -> bool
+    ensures { λ r. ⌜ Decides r (now (word .entry) ≡ codes "-") ⌝ }
+{
+    match from_utf8(word) {
+        Ok(text) => text == "-",
+        Err(_) => false,
+    }
+}
+
+/// The bytes that digits spell, if they spell some.
+fn digit_bytes(heap: Global, digits: &[u8]) -> Result<Option<Vec<u8>>, AllocError>
+    ensures { λ r. ⌜ SpelledBytes (now (digits .entry)) r ⌝ }
+{
+    let mut bytes = vec![in heap; 0; digits.len() / 2]?;
+    if hex::read(digits, bytes.as_mut_slice()) {
+        Ok(Some(bytes))
+    } else {
+        Ok(None)
+    }
+}
+
+/// The call that makes a cipher.
+fn cipher<'a>(line: &'a [u8]) -> Result<Call<'a>, Unreadable>
+    ensures { λ r. ⌜ Takes V.Cipher (wordsOf (now (line .entry))) r ⌝ }
+{
+    let Some((name, rest)) = word(line) else {
+        return Err(Unreadable::Form(Verb::Cipher));
+    };
+    match make(rest) {
+        Some(make) => Ok(Call::Cipher(name, make)),
+        None => Err(Unreadable::Form(Verb::Cipher)),
+    }
+}
+
+/// The call that loads a key.
+fn load<'a>(heap: Global, line: &'a [u8]) -> Result<Call<'a>, Unreadable>
+    ensures { λ r. ⌜ Takes V.Load (wordsOf (now (line .entry))) r ⌝ }
+{
+    let Some((name, rest)) = word(line) else {
+        return Err(Unreadable::Form(Verb::Load));
+    };
+    let Some(digits) = last_word(rest) else {
+        return Err(Unreadable::Form(Verb::Load));
+    };
+    match bytes(heap, digits) {
+        Ok(Some(key)) => Ok(Call::Load(name, key)),
+        Ok(None) => Err(Unreadable::Form(Verb::Load)),
+        Err(_) => Err(Unreadable::Memory),
+    }
+}
+
+/// A name and a block, if a line has just these.
+fn name_and_block(line: &[u8]) -> Option<(&[u8], Block)>
+    ensures { λ r. ⌜ Cases r (NoNameAndBlock (wordsOf (now (line .entry)))) (λ x. (wordsOf (now (line .entry)) ≡ x .0 .now ∷ spelled (bytesOf (x .1)) ∷ []) × Sound (x .1)) ⌝ }
+{
+    let (name, rest) = word(line)?;
+    let digits = last_word(rest)?;
+    let block = hex::read_block(digits)?;
+    Some((name, block))
+}
+
+/// The call that enciphers a block.
+fn encipher<'a>(line: &'a [u8]) -> Result<Call<'a>, Unreadable>
+    ensures { λ r. ⌜ Takes V.Encipher (wordsOf (now (line .entry))) r ⌝ }
+{
+    match name_and_block(line) {
+        Some((name, block)) => Ok(Call::Encipher(name, block)),
+        None => Err(Unreadable::Form(Verb::Encipher)),
+    }
+}
+
+/// The call that deciphers a block.
+fn decipher<'a>(line: &'a [u8]) -> Result<Call<'a>, Unreadable>
+    ensures { λ r. ⌜ Takes V.Decipher (wordsOf (now (line .entry))) r ⌝ }
+{
+    match name_and_block(line) {
+        Some((name, block)) => Ok(Call::Decipher(name, block)),
+        None => Err(Unreadable::Form(Verb::Decipher)),
+    }
+}
+
+/// The call that a line says: none where it has no words.
+pub fn read<'a>(heap: Global, line: &'a [u8]) -> Result<Option<Call<'a>>, Unreadable>
+    ensures { λ r. ⌜ Reads (wordsOf (now (line .entry))) r ⌝ }
+{
+    let Some((first, rest)) = word(line) else {
+        return Ok(None);
+    };
+    let Some(verb) = Verb::read(first) else {
+        return Err(Unreadable::UnknownVerb);
+    };
+    Ok(Some(after(heap, verb, rest)?))
+}
+
+/// The call that a line says after its verb.
+fn after<'a>(heap: Global, verb: Verb, line: &'a [u8]) -> Result<Call<'a>, Unreadable>
+    ensures { λ r. ⌜ Takes verb (wordsOf (now (line .entry))) r ⌝ }
+{
+    match verb {
+        Verb::Cipher => cipher(line),
+        Verb::Load => load(heap, line),
+        Verb::Encipher => encipher(line),
+        Verb::Decipher => decipher(line),
+    }
+}

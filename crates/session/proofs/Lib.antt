@@ -1,0 +1,4 @@
+pub mod Entries
+pub mod Finding
+pub mod Loading
+pub mod Performing
