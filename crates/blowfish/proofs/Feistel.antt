@@ -1,9 +1,8 @@
 -- The rounds of Blowfish and their way back, whatever the tables hold.
-use mathlib.Core.Path.{_≡_, _∙_, ap}
+use mathlib.Core.Path.{_∙_, ap}
 use Prim.Native.Nat.{ℕ, _+_, _*_, _^_, _<_}
 use native.Mathlib.Omega.{arith}
 use lib.Bits.{bitXor, xor-lt}
-use Rattle.cipher.specs.declared.block.Block.{Block}
 use Rattle.cipher.specs.Blocks.{Inverse}
 use Rattle.cipher.specs.Rounds.{rounds, unrounds}
 use Rattle.cipher.proofs.Blocks.{same, inverse-then, inverse-rounds}

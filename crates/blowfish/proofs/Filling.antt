@@ -1,5 +1,5 @@
 -- The steps of the key schedule: each loop's turn is one step of its definition.
-use mathlib.Core.Path.{_≡_, refl, sym, _∙_, ap}
+use mathlib.Core.Path.{_≡_, _∙_, ap}
 use mathlib.Core.List.{List}
 use Prim.Native.Nat.{ℕ}
 use Rattle.cipher.specs.declared.block.Block.{Block}

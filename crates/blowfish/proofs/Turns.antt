@@ -1,6 +1,6 @@
 -- The rounds in turns: the words of P are xored in one round early.
 use mathlib.Core.Path.{_≡_, refl, sym, _∙_, ap}
-use Prim.Native.Nat.{ℕ, zero, suc, _+_, _*_, _^_}
+use Prim.Native.Nat.{ℕ, zero, suc, _+_, _*_}
 use native.Mathlib.Omega.{arith}
 use lib.Bits.{bitXor, xor-assoc, xor-comm}
 use Rattle.cipher.specs.declared.block.Block.{Block}

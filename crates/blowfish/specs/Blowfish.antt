@@ -9,7 +9,7 @@
 --   enciphered t b      E under the tables t
 --   deciphered t b      D under the tables t
 --   turned t i b        a round on halves that have their words of P in them already
-use mathlib.Core.List.{List, []}
+use mathlib.Core.List.{[]}
 use Prim.Native.Nat.{ℕ, _+_, _*_, _/_, _%_, _^_}
 use lib.Bits.{bitXor}
 use lib.ListN.{getD}

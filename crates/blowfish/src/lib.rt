@@ -1,7 +1,6 @@
 //! Blowfish: sixteen rounds over tables that a key of 4 to 56 bytes makes out of the digits of pi.
 //!
 //! Public: `Blowfish`, with `new`, and the calls of `BlockCipher` and `KeyedCipher`.
-ghost use mathlib.Core.Path.{_≡_};
 ghost use Rattle.std.specs.Orderings.{When};
 ghost use Rattle.blowfish.specs.Blowfish.{enciphered, deciphered};
 ghost use Rattle.blowfish.specs.Schedule.{initial, scheduled, Takes};

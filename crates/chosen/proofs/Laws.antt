@@ -1,16 +1,18 @@
 -- The laws of a chosen cipher, from those of its parts.
 use mathlib.Core.List.{List}
-use mathlib.Core.Path.{_≡_, sym, subst}
+use mathlib.Core.Path.{_≡_, sym, ap, subst}
 use Prim.Native.Nat.{ℕ}
 use lib.ListN.{length}
 use Rattle.blowfish.proofs.Feistel as blowfish
 use Rattle.cipher.specs.Blocks.{Inverse}
+use Rattle.cipher.specs.Keys.{Alike}
 use Rattle.cipher.proofs.Blocks.{inverse-triple}
 use Rattle.xtea.proofs.Cycles as xtea
 use Rattle.chosen.specs.declared.Chosen.{Chosen}
 use Rattle.chosen.specs.declared.Chosen.the-variants.{One, Three}
 use Rattle.chosen.specs.declared.Keyed.{Keyed}
 use Rattle.chosen.specs.declared.Keyed.the-variants.{Blowfish, Xtea}
+use Rattle.chosen.specs.declared.Kind.{Kind}
 use Rattle.chosen.specs.Kinds.{keyedKind}
 use Rattle.chosen.specs.Meanings.{keyedEnc, keyedDec, Lengths, encUnder, decUnder, chosenEnc, chosenDec}
 
@@ -32,3 +34,7 @@ Loaded s t key =
 -- a fact at the variant that s is holds at s
 pub loaded-at : (s t x : Keyed) (key : List ℕ) → s ≡ x → Loaded x t key → Loaded s t key
 loaded-at s t x key e h = subst (λ y. Loaded y t key) (sym e) h
+
+-- what keys mean stays with the kind
+pub stays-at : (k l : Kind) → k ≡ l → Alike (Lengths k) (Lengths l) × (encUnder k ≡ encUnder l) × (decUnder k ≡ decUnder l)
+stays-at k l e = (λ n. (subst (λ x. Lengths x n) e, subst (λ x. Lengths x n) (sym e)), ap encUnder e, ap decUnder e)

@@ -19,7 +19,6 @@ use Rattle.chosen.specs.declared.Keyed.{Keyed}
 use Rattle.chosen.specs.declared.Keyed.the-variants.{Blowfish, Xtea}
 use Rattle.chosen.specs.declared.Kind.{Kind}
 use Rattle.chosen.specs.declared.Kind.the-variants as kind
-use Rattle.chosen.specs.Kinds.{keyedKind}
 
 abbrev pub keyedEnc : Keyed → Block → Block
 keyedEnc (Blowfish x) b = blowfish.enciphered x b

@@ -1,10 +1,11 @@
 //! A cipher that is chosen while a program runs.
 //!
-//! Public: `Kind` with `name`; `Keyed` with `new`, `kind` and the calls of `KeyedCipher`;
-//! `Chosen` with `kind` and the calls of `BlockCipher`.
+//! Public: `Kind` with `name`; `Keyed` with `blowfish`, `xtea` and the calls of `BlockCipher` and
+//! `KeyedCipher`; `Chosen` with `kind` and the calls of `BlockCipher`.
 ghost use mathlib.Core.Path.{_≡_};
 ghost use lib.ListN.{length};
 ghost use Rattle.refusal.specs.Refusals.{Answers};
+ghost use Rattle.cipher.specs.Keys.{Alike};
 ghost use Rattle.chosen.specs.Kinds.{kindName, keyedKind, chosenKind};
 ghost use Rattle.chosen.specs.Meanings.{keyedEnc, keyedDec, chosenEnc, chosenDec, Lengths, encUnder as encKeyed, decUnder as decKeyed, Fresh};
 use blowfish::Blowfish;
@@ -112,6 +113,9 @@ pub impl KeyedCipher for Keyed as KeyedLoads {
             × (keyedEnc (now (self .exit)) ≡ encKeyed (keyedKind (now (self .entry))) (now (key .entry)))
             × (keyedDec (now (self .exit)) ≡ decKeyed (keyedKind (now (self .entry))) (now (key .entry))))
             (λ n. (n ≡ 16) × (Lengths (keyedKind (now (self .entry))) (length (now (key .entry))) → ⊥) × (now (self .exit) ≡ now (self .entry))) ⌝ }
+        ensures stays { λ _. ⌜ Alike (Lengths (keyedKind (now (self .exit)))) (Lengths (keyedKind (now (self .entry))))
+            × (encKeyed (keyedKind (now (self .exit))) ≡ encKeyed (keyedKind (now (self .entry))))
+            × (decKeyed (keyedKind (now (self .exit))) ≡ decKeyed (keyedKind (now (self .entry)))) ⌝ }
         ensures kind { λ _. ⌜ keyedKind (now (self .exit)) ≡ keyedKind (now (self .entry)) ⌝ }
     {
         match *self {

@@ -2,7 +2,7 @@
 --   Sound b        both words of b have 32 bits: every block of a program has that
 --   Inverse E D    E and D undo each other
 use mathlib.Core.Path.{_≡_}
-use Prim.Native.Nat.{ℕ, _<_, _^_}
+use Prim.Native.Nat.{_<_, _^_}
 use Rattle.cipher.specs.declared.block.Block.{Block}
 
 abbrev pub Sound : Block → Type 0

@@ -1,6 +1,5 @@
 //! Blocks of 64 bits, and blocks in fours and eights for ciphers that take several at once.
 ghost use mathlib.Core.Path.{_≡_};
-ghost use Prim.Native.Nat.{_^_, _<_};
 ghost use Rattle.cipher.specs.Bytes.{blockOf, bytesOf};
 
 /// Two words of 32 bits, the left one first; as bytes big-endian.

@@ -10,6 +10,7 @@ ghost use lib.ListN.{length};
 ghost use Rattle.refusal.specs.Refusals.{Answers};
 ghost use Rattle.cipher.specs.declared.block.Block.{Block as B};
 ghost use Rattle.cipher.specs.Blocks.{Inverse};
+ghost use Rattle.cipher.specs.Keys.{Alike};
 ghost use Rattle.cipher.specs.Eights.{eachOfEight};
 
 pub mod block;
@@ -88,26 +89,33 @@ pub trait KeyedCipher: BlockCipher {
     ghost decUnder: { Self → List ℕ → B → B };
 
     /// Loads a key: accepted exactly at a lawful length, and then E and D are those under that key; else 16, and the cipher is as it was.
+    /// What keys mean to it stays.
     fn load_key(&mut self, key: &[u8]) -> Result<(), Refusal>
-        ensures { λ r. ⌜ Answers r
+        ensures loads { λ r. ⌜ Answers r
             (λ _. takes (now (self .entry)) (length (now (key .entry)))
             × (Self·BlockCipher .enc (now (self .exit)) ≡ encUnder (now (self .entry)) (now (key .entry)))
             × (Self·BlockCipher .dec (now (self .exit)) ≡ decUnder (now (self .entry)) (now (key .entry))))
-            (λ n. (n ≡ 16) × (takes (now (self .entry)) (length (now (key .entry))) → ⊥) × (now (self .exit) ≡ now (self .entry))) ⌝ };
+            (λ n. (n ≡ 16) × (takes (now (self .entry)) (length (now (key .entry))) → ⊥) × (now (self .exit) ≡ now (self .entry))) ⌝ }
+        ensures stays { λ _. ⌜ Alike (takes (now (self .exit))) (takes (now (self .entry)))
+            × (encUnder (now (self .exit)) ≡ encUnder (now (self .entry)))
+            × (decUnder (now (self .exit)) ≡ decUnder (now (self .entry))) ⌝ };
 }
 
-/// One block under a key, by any keyed cipher.
+/// One block under a key, by any keyed cipher, which then stands under that key.
 pub fn encipher_under<K: KeyedCipher>(
     cipher: &mut K,
     key: &[u8],
     block: Block,
 ) -> Result<Block, Refusal>
-    ensures { λ r. ⌜ Answers r
+    ensures answers { λ r. ⌜ Answers r
         (λ b. K·KeyedCipher .takes (now (cipher .entry)) (length (now (key .entry)))
         × (b ≡ K·KeyedCipher .encUnder (now (cipher .entry)) (now (key .entry)) block)
         × (K·BlockCipher .enc (now (cipher .exit)) ≡ K·KeyedCipher .encUnder (now (cipher .entry)) (now (key .entry)))
         × (K·BlockCipher .dec (now (cipher .exit)) ≡ K·KeyedCipher .decUnder (now (cipher .entry)) (now (key .entry))))
         (λ n. (n ≡ 16) × (K·KeyedCipher .takes (now (cipher .entry)) (length (now (key .entry))) → ⊥) × (now (cipher .exit) ≡ now (cipher .entry))) ⌝ }
+    ensures stays { λ _. ⌜ Alike (K·KeyedCipher .takes (now (cipher .exit))) (K·KeyedCipher .takes (now (cipher .entry)))
+        × (K·KeyedCipher .encUnder (now (cipher .exit)) ≡ K·KeyedCipher .encUnder (now (cipher .entry)))
+        × (K·KeyedCipher .decUnder (now (cipher .exit)) ≡ K·KeyedCipher .decUnder (now (cipher .entry))) ⌝ }
 {
     cipher.load_key(key)?;
     Ok(cipher.encipher(block))

@@ -1,5 +1,4 @@
 //! Three ciphers as one.
-ghost use mathlib.Core.Path.{_≡_};
 use crate::BlockCipher;
 use crate::block::Block;
 use crate::block::Eight;

@@ -1,15 +1,12 @@
 -- Digits and what they are worth.
-use mathlib.Core.Bool.{cond}
 use mathlib.Core.List.{List, [], _∷_, _++_, append-assoc}
 use mathlib.Core.Path.{_≡_, refl, sym, _∙_, ap, subst}
-use Prim.Native.Nat.{ℕ, zero, suc, _+_, _-_, _*_, _/_, _%_, _<_, _≤_}
+use Prim.Native.Nat.{ℕ, zero, suc, _+_, _*_, _/_, _%_, _<_}
 use native.Mathlib.Omega.{arith}
 use Rattle.std.proofs.shelf.Elements.{all-push}
 use Rattle.std.proofs.shelf.Ways.{tells}
-use Rattle.std.proofs.shelf.Lists.{take-more, take-more-set, length-set, take-set-le}
-use lib.Dec.{ltb}
-use lib.ListN.{length, getD, take, drop, set}
-use Rattle.std.specs.shelf.Lists.{All}
+use Rattle.std.proofs.shelf.Lists.{take-more, take-more-set, length-set}
+use lib.ListN.{length, getD, take, set}
 use Rattle.cipher.specs.declared.block.Block.{Block}
 use Rattle.cipher.specs.Bytes.{bytesOf}
 use Rattle.hex.specs.Digits.{digitOf, spelled, Bytes, Unspelt}

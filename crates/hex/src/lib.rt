@@ -3,8 +3,8 @@
 //! Public: `read`, `read_block`, `spell_block`.
 ghost use mathlib.Core.Bool.{true};
 ghost use mathlib.Core.Path.{_≡_};
-ghost use Prim.Native.Nat.{ℕ, _+_, _*_, _<_};
-ghost use lib.ListN.{length, getD};
+ghost use Prim.Native.Nat.{_+_, _*_, _<_};
+ghost use lib.ListN.{length};
 ghost use Rattle.std.specs.Options.{Cases};
 ghost use Rattle.std.specs.Orderings.{When};
 ghost use Rattle.cipher.specs.Bytes.{bytesOf};

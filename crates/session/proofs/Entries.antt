@@ -8,7 +8,7 @@ use Rattle.std.specs.Lexical.{Matches}
 use Rattle.std.specs.Orderings.{Decides}
 use Rattle.std.specs.shelf.Text.{sameBytes}
 use Rattle.std.proofs.shelf.Equals.{matches-decides, sameBytes-decides}
-use Rattle.std.proofs.shelf.Lists.{getD-map, length-map}
+use Rattle.std.proofs.shelf.Lists.{getD-map}
 use Rattle.std.proofs.shelf.Ways.{same-from-decides}
 use Rattle.session.specs.declared.entry.Entry.{Entry}
 use Rattle.session.specs.Views.{entryOf}

@@ -7,11 +7,10 @@ use native.Mathlib.Omega.{arith}
 use lib.ListN.{getD, set}
 use Rattle.std.specs.declared.option.Option.{Option}
 use Rattle.std.specs.declared.option.Option.the-variants.{None, Some}
-use Rattle.std.specs.declared.result.Result.the-variants.{Ok, Err}
+use Rattle.std.specs.declared.result.Result.the-variants.{Ok}
 use Rattle.std.specs.Options.{isSome}
 use Rattle.chosen.specs.declared.Chosen.the-variants.{One}
 use Rattle.chosen.specs.declared.Keyed.{Keyed}
-use Rattle.chosen.specs.declared.Kind.{Kind}
 use Rattle.chosen.specs.Kinds.{keyedKind}
 use Rattle.chosen.specs.Meanings.{keyedEnc, keyedDec, encUnder, decUnder}
 use Rattle.session.specs.Calls.{under}

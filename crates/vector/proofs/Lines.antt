@@ -1,15 +1,14 @@
 -- Which lines are vectors, and of which key and block.
-use mathlib.Core.List.{List, [], _∷_, _++_}
-use mathlib.Core.Path.{_≡_, refl, sym, _∙_, ap, subst}
+use mathlib.Core.List.{List, _∷_, _++_}
+use mathlib.Core.Path.{_≡_, refl, sym, _∙_, ap}
 use Prim.Native.Nat.{ℕ, _+_, _*_, _<_, _≤_}
 use native.Mathlib.Omega.{arith}
 use lib.ListN.{length, getD, take, drop}
 use Rattle.std.proofs.shelf.Lists.{length-append, take-at, drop-at, getD-at, length-take-le, take-append-drop, drop-more}
 use Rattle.cipher.specs.declared.block.Block.{Block}
-use Rattle.cipher.specs.Blocks.{Sound}
 use Rattle.cipher.specs.Bytes.{blockOf, bytesOf}
 use Rattle.cipher.proofs.Bytes.{blockOf-bytesOf}
-use Rattle.hex.specs.Digits.{spelled, Bytes, Unspelt, NoBlock}
+use Rattle.hex.specs.Digits.{spelled, Unspelt, NoBlock}
 use Rattle.hex.proofs.Spelling.{length-spelled, spelled-one, bytesOf-bytes}
 use Rattle.vector.specs.Lines.{Parted, Whole, Vector, Foreign, Serves, hyphen}
 

@@ -5,7 +5,7 @@
 --   Foreign n line             no key of n bytes and no block make this line
 --   Serves E n line reply      the reply to a line by a cipher with E under a key, where keys have n bytes
 --   Answered line reply        the reply to a line: by Blowfish where the key has eight bytes, by XTEA where it has sixteen, else a hyphen
-use mathlib.Core.List.{List, [], _∷_, _++_}
+use mathlib.Core.List.{List, _∷_, _++_}
 use mathlib.Core.Path.{_≡_}
 use Prim.Native.Nat.{ℕ}
 use lib.Chars.{codes}

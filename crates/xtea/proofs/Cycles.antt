@@ -3,13 +3,13 @@ use mathlib.Core.Path.{_≡_, refl, sym, _∙_, ap}
 use mathlib.Core.List.{List}
 use Prim.Native.Nat.{ℕ, zero, suc, _*_, _%_, _^_, _<_}
 use native.Mathlib.Omega.{arith}
-use lib.Bits.{bitXor, xor-lt}
+use lib.Bits.{xor-lt}
 use Rattle.cipher.specs.declared.block.Block.{Block}
 use Rattle.cipher.specs.Blocks.{Inverse, Sound}
 use Rattle.cipher.specs.Words.{plus, minus}
 use Rattle.cipher.proofs.Blocks.{same, inverse-rounds}
 use Rattle.cipher.proofs.Words.{plus-lt, minus-lt, minus-plus, plus-minus}
-use Rattle.xtea.specs.Xtea.{enciphered, deciphered, mixed, leftWord, rightWord, leftShare, rightShare, cycled, uncycled, cycles, uncycles, sumAt}
+use Rattle.xtea.specs.Xtea.{enciphered, deciphered, leftShare, rightShare, cycled, uncycled, cycles, uncycles, sumAt}
 
 left-lt : (k : List ℕ) (s v : ℕ) → leftShare k s v < 2 ^ 32
 left-lt k s v = xor-lt 32 _ _ (plus-lt _ v) (plus-lt s _)

@@ -1,6 +1,6 @@
 use mathlib.Core.Path.{_≡_}
 use Prim.Native.Nat.{_*_}
-use lib.ListN.{length, take}
+use lib.ListN.{take}
 use Rattle.hex.specs.Digits.{spelled, Bytes}
 use Rattle.hex.proofs.read.Given as given
 

@@ -1,8 +1,7 @@
-use borrow.Author.Needs.{needs}
 use mathlib.Core.Path.{_≡_, refl, _∙_, ap, sym}
-use Prim.Native.Nat.{_+_, _*_, _≤_}
+use Prim.Native.Nat.{_*_}
 use native.Mathlib.Omega.{arith}
-use lib.ListN.{length, take, set}
+use lib.ListN.{length}
 use Rattle.std.proofs.shelf.Lists.{take-all, length-set}
 use Rattle.hex.specs.Digits.{spelled}
 use Rattle.hex.proofs.Spelling.{spell-more}

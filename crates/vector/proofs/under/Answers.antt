@@ -1,10 +1,7 @@
-use mathlib.Core.Path.{_≡_, sym, ap, _∙_}
+use mathlib.Core.Path.{sym, ap, _∙_}
 use mathlib.Core.List.{_∷_, _++_}
-use Prim.Native.Nat.{ℕ, _<_}
 use borrow.Author.Needs.{needs}
-use lib.ListN.{length, getD}
-use Rattle.cipher.specs.Bytes.{bytesOf}
-use Rattle.hex.specs.Digits.{spelled, Bytes}
+use Rattle.hex.specs.Digits.{spelled}
 use Rattle.vector.proofs.Lines.{foreign-whole, foreign-block, foreign-key, serves-foreign, serves-vector}
 use Rattle.vector.proofs.under.Needs as need
 
@@ -30,4 +27,4 @@ returns-in-Ok g c =
           ∙ ap (λ xs. spelled (c .read .last .bytes) ++ (32 ∷ xs)) (sym (c .in-Some-read-block .ensures tt));
     }
     )
-    (c .in-Ok .ensures tt .1) (c .ciphertext .ensures)
+    (c .in-Ok .ensures tt .answers .1) (c .ciphertext .ensures)

@@ -1,16 +1,16 @@
 use mathlib.Core.Path.{refl}
 use Rattle.chosen.specs.declared.Keyed.the-variants.{Blowfish, Xtea}
-use Rattle.chosen.proofs.Laws.{loaded-at}
+use Rattle.chosen.proofs.Laws.{loaded-at, stays-at}
 use Rattle.chosen.proofs.KeyedLoads.load_key.Needs as need
 
 pub returns-in-Continue-load-key : need.returns-in-Continue-load-key
 returns-in-Continue-load-key c =
     let h = loaded-at (c .args .self .now) (Blowfish (c .load-key .last .self)) (Blowfish (c .in-Blowfish .cipher)) (c .args .key .now)
-    (c .in-Blowfish .is) (c .in-Continue-load-key .ensures tt, refl) in
-    record { loads = h .0; kind = h .1 }
+    (c .in-Blowfish .is) (c .in-Continue-load-key .ensures tt .loads, refl) in
+    record { loads = h .0; stays = stays-at _ _ (h .1); kind = h .1 }
 
 pub returns-in-Continue-load-key-2 : need.returns-in-Continue-load-key-2
 returns-in-Continue-load-key-2 c =
     let h = loaded-at (c .args .self .now) (Xtea (c .load-key-in-Xtea .last .self)) (Xtea (c .in-Xtea .cipher)) (c .args .key .now)
-    (c .in-Xtea .is) (c .in-Continue-load-key-2 .ensures tt, refl) in
-    record { loads = h .0; kind = h .1 }
+    (c .in-Xtea .is) (c .in-Continue-load-key-2 .ensures tt .loads, refl) in
+    record { loads = h .0; stays = stays-at _ _ (h .1); kind = h .1 }

@@ -1,7 +1,6 @@
-use mathlib.Core.Path.{_≡_, refl, sym, _∙_, ap}
+use mathlib.Core.Path.{_≡_, refl, _∙_, ap}
 use native.Mathlib.Numerals.{add-one}
 use native.Mathlib.Omega.{arith}
-use Rattle.cipher.specs.declared.block.Eight.{Eight}
 use Rattle.cipher.specs.Eights.{eachOfEight}
 use Rattle.cipher.specs.Words.{plus}
 use Rattle.xtea.specs.Xtea.{cycled, cycles}

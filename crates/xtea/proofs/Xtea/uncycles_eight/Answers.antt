@@ -2,7 +2,6 @@ use mathlib.Core.Path.{_≡_, refl, sym, _∙_, ap}
 use Prim.Native.Nat.{_-_, _+_}
 use native.Mathlib.Omega.{arith}
 use Rattle.cipher.specs.declared.block.Block.{Block}
-use Rattle.cipher.specs.declared.block.Eight.{Eight}
 use Rattle.cipher.specs.Eights.{eachOfEight}
 use Rattle.cipher.specs.Words.{minus}
 use Rattle.xtea.specs.Xtea.{sumAt, uncycled, uncycles}

@@ -1,5 +1,5 @@
 use borrow.Author.Needs.{needs}
-use mathlib.Core.Path.{_≡_, refl, sym, ap, _∙_}
+use mathlib.Core.Path.{refl, ap, _∙_}
 use Rattle.chosen.specs.declared.Chosen.the-variants.{One}
 use Rattle.session.specs.Calls.Loads.{unkeyed, refused, loads}
 use Rattle.session.specs.State.{put}

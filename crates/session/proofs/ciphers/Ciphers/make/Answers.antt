@@ -1,6 +1,6 @@
 use borrow.Author.Needs.{needs}
 use mathlib.Core.Path.{refl, sym}
-use Rattle.session.specs.Calls.Makes.{taken, unmade, makes, no-memory}
+use Rattle.session.specs.Calls.Makes.{taken, unmade, makes}
 use Rattle.session.proofs.ciphers.Ciphers.make.Needs as need
 
 pub returns-in-Some : need.returns-in-Some

@@ -1,5 +1,5 @@
 use borrow.Author.Needs.{needs}
-use mathlib.Core.Path.{_≡_, refl, subst}
+use mathlib.Core.Path.{refl, subst}
 use Rattle.session.specs.Calls.{Loads}
 use Rattle.session.specs.Views.{standing}
 use Rattle.session.proofs.Performing.{does-at}
