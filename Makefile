@@ -2,7 +2,7 @@
 .PHONY: run test
 
 run: target/bin/exercise
-	@target/bin/exercise <crates/exercise/stdin
+	@target/bin/exercise <samples/weir.script
 
 # rt proves before it builds, and takes over what has not changed since
 target/bin/exercise: FORCE

@@ -2,7 +2,6 @@
 use mathlib.Core.List.{List}
 use mathlib.Core.Path.{_≡_, sym, ap, subst}
 use Prim.Native.Nat.{ℕ}
-use lib.ListN.{length}
 use Rattle.blowfish.proofs.Feistel as blowfish
 use Rattle.cipher.specs.Blocks.{Inverse}
 use Rattle.cipher.specs.Keys.{Alike}
@@ -13,8 +12,7 @@ use Rattle.chosen.specs.declared.Chosen.the-variants.{One, Three}
 use Rattle.chosen.specs.declared.Keyed.{Keyed}
 use Rattle.chosen.specs.declared.Keyed.the-variants.{Blowfish, Xtea}
 use Rattle.chosen.specs.declared.Kind.{Kind}
-use Rattle.chosen.specs.Kinds.{keyedKind}
-use Rattle.chosen.specs.Meanings.{keyedEnc, keyedDec, Lengths, encUnder, decUnder, chosenEnc, chosenDec}
+use Rattle.chosen.specs.Meanings.{Loaded, keyedEnc, keyedDec, Lengths, encUnder, decUnder, chosenEnc, chosenDec}
 
 pub keyed-inverse : (c : Keyed) → Inverse (keyedEnc c) (keyedDec c)
 keyed-inverse (Blowfish x) = blowfish.inverse x
@@ -25,11 +23,6 @@ chosen-inverse (One c) = keyed-inverse c
 chosen-inverse (Three t) =
     inverse-triple (keyedEnc (t .first)) (keyedDec (t .first)) (keyedEnc (t .second)) (keyedDec (t .second)) (keyedEnc (t .third)) (keyedDec (t .third))
     (keyed-inverse (t .first)) (keyed-inverse (t .second)) (keyed-inverse (t .third))
-
--- s, with the key loaded, is t
-abbrev pub Loaded : Keyed → Keyed → List ℕ → Type 0
-Loaded s t key =
-    (Lengths (keyedKind s) (length key) × (keyedEnc t ≡ encUnder (keyedKind s) key) × (keyedDec t ≡ decUnder (keyedKind s) key)) × (keyedKind t ≡ keyedKind s)
 
 -- a fact at the variant that s is holds at s
 pub loaded-at : (s t x : Keyed) (key : List ℕ) → s ≡ x → Loaded x t key → Loaded s t key

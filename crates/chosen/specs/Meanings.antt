@@ -2,12 +2,13 @@
 --   keyedEnc c, keyedDec c        E and D of a keyed cipher
 --   Lengths k n                   ciphers of kind k take keys of n bytes
 --   encUnder k, decUnder k        E and D of a kind under a key
+--   Loaded s t key                t is s with the key loaded
 --   chosenEnc c, chosenDec c      E and D of a chosen cipher; three in a row are first E, then D, then E
 --   Fresh k c                     c is of kind k, before any load: Blowfish at the tables of pi, XTEA under sixteen zero bytes
 use mathlib.Core.List.{List}
 use mathlib.Core.Path.{_≡_}
 use Prim.Native.Nat.{ℕ}
-use lib.ListN.{replicate}
+use lib.ListN.{length, replicate}
 use Rattle.blowfish.specs.Blowfish as blowfish
 use Rattle.blowfish.specs.Schedule.{Takes, initial, scheduled}
 use Rattle.cipher.specs.declared.block.Block.{Block}
@@ -19,6 +20,7 @@ use Rattle.chosen.specs.declared.Keyed.{Keyed}
 use Rattle.chosen.specs.declared.Keyed.the-variants.{Blowfish, Xtea}
 use Rattle.chosen.specs.declared.Kind.{Kind}
 use Rattle.chosen.specs.declared.Kind.the-variants as kind
+use Rattle.chosen.specs.Kinds.{keyedKind}
 
 abbrev pub keyedEnc : Keyed → Block → Block
 keyedEnc (Blowfish x) b = blowfish.enciphered x b
@@ -43,6 +45,11 @@ abbrev pub decUnder : Kind → List ℕ → Block → Block
 decUnder kind.Blowfish key b = blowfish.deciphered (scheduled initial key) b
 decUnder kind.Xtea key b = xtea.deciphered (keyWords key) b
 decUnder kind.Triple key b = b
+
+-- t is s with the key loaded
+abbrev pub Loaded : Keyed → Keyed → List ℕ → Type 0
+Loaded s t key =
+    (Lengths (keyedKind s) (length key) × (keyedEnc t ≡ encUnder (keyedKind s) key) × (keyedDec t ≡ decUnder (keyedKind s) key)) × (keyedKind t ≡ keyedKind s)
 
 abbrev pub chosenEnc : Chosen → Block → Block
 chosenEnc (One c) b = keyedEnc c b

@@ -7,7 +7,7 @@ ghost use lib.ListN.{length};
 ghost use Rattle.refusal.specs.Refusals.{Answers};
 ghost use Rattle.cipher.specs.Keys.{Alike};
 ghost use Rattle.chosen.specs.Kinds.{kindName, keyedKind, chosenKind};
-ghost use Rattle.chosen.specs.Meanings.{keyedEnc, keyedDec, chosenEnc, chosenDec, Lengths, encUnder as encKeyed, decUnder as decKeyed, Fresh};
+ghost use Rattle.chosen.specs.Meanings.{keyedEnc, keyedDec, chosenEnc, chosenDec, Lengths, encUnder as encKeyed, decUnder as decKeyed, Loaded, Fresh};
 use blowfish::Blowfish;
 use blowfish::BlowfishCipher;
 use blowfish::BlowfishKeyed;
@@ -66,6 +66,24 @@ impl Keyed {
     }
 }
 
+impl Keyed {
+    /// The same cipher with a key loaded.
+    fn loaded(self, key: &[u8]) -> Result<Keyed, Refusal>
+        ensures { λ r. ⌜ Answers r (λ t. Loaded self t (now (key .entry))) (λ n. (n ≡ 16) × (Lengths (keyedKind self) (length (now (key .entry))) → ⊥)) ⌝ }
+    {
+        match self {
+            Keyed::Blowfish(mut cipher) => {
+                cipher.load_key(key)?;
+                Ok(Keyed::Blowfish(cipher))
+            }
+            Keyed::Xtea(mut cipher) => {
+                cipher.load_key(key)?;
+                Ok(Keyed::Xtea(cipher))
+            }
+        }
+    }
+}
+
 pub impl BlockCipher for Keyed as KeyedBlock {
     ghost enc = { keyedEnc };
 
@@ -118,16 +136,7 @@ pub impl KeyedCipher for Keyed as KeyedLoads {
             × (decKeyed (keyedKind (now (self .exit))) ≡ decKeyed (keyedKind (now (self .entry)))) ⌝ }
         ensures kind { λ _. ⌜ keyedKind (now (self .exit)) ≡ keyedKind (now (self .entry)) ⌝ }
     {
-        match *self {
-            Keyed::Blowfish(mut cipher) => {
-                cipher.load_key(key)?;
-                *self = Keyed::Blowfish(cipher);
-            }
-            Keyed::Xtea(mut cipher) => {
-                cipher.load_key(key)?;
-                *self = Keyed::Xtea(cipher);
-            }
-        }
+        *self = self.loaded(key)?;
         Ok(())
     }
 }

@@ -1,4 +1,5 @@
 -- Words and blocks as bytes, big-endian, the left word first.
+--   Bytes xs        each of xs is a byte
 --   word a b c d    the word of four bytes, the first one highest
 --   wordBytes w     the four bytes of a word
 --   wordAt xs i     the word whose bytes stand in xs from place i on
@@ -6,9 +7,13 @@
 --   blockOf xs      the block of the first eight bytes of xs
 --   bytesOf b       the eight bytes of a block
 use mathlib.Core.List.{List, [], _∷_, _++_}
-use Prim.Native.Nat.{ℕ, _+_, _*_, _/_, _%_}
+use Prim.Native.Nat.{ℕ, _+_, _*_, _/_, _%_, _<_}
 use lib.ListN.{getD}
+use Rattle.std.specs.shelf.Lists.{All}
 use Rattle.cipher.specs.declared.block.Block.{Block}
+
+abbrev pub Bytes : List ℕ → Type 0
+Bytes xs = All (λ x. x < 256) xs
 
 abbrev pub word : ℕ → ℕ → ℕ → ℕ → ℕ
 word a b c d = a * 16777216 + b * 65536 + c * 256 + d

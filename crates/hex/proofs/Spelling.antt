@@ -8,8 +8,8 @@ use Rattle.std.proofs.shelf.Ways.{tells}
 use Rattle.std.proofs.shelf.Lists.{take-more, take-more-set, length-set}
 use lib.ListN.{length, getD, take, set}
 use Rattle.cipher.specs.declared.block.Block.{Block}
-use Rattle.cipher.specs.Bytes.{bytesOf}
-use Rattle.hex.specs.Digits.{digitOf, spelled, Bytes, Unspelt}
+use Rattle.cipher.specs.Bytes.{Bytes, bytesOf}
+use Rattle.hex.specs.Digits.{digitOf, spelled, Unspelt}
 use Rattle.hex.specs.Worth.{worthOf, AllDigits, SomeOther}
 
 pub worth-digit : (d : ℕ) → d < 16 → worthOf (digitOf d) < 16
@@ -94,6 +94,15 @@ spell-more bs ds i p q h k e f s =
 pub bytesOf-bytes : (b : Block) → Bytes (bytesOf b)
 bytesOf-bytes b =
     (omega arith, (omega arith, (omega arith, (omega arith, (omega arith, (omega arith, (omega arith, (omega arith, tt))))))))
+
+-- one byte more at the end
+pub spelled-more : (bs : List ℕ) (i p q : ℕ) → i < length bs → p ≡ digitOf (getD bs i 0 / 16) → q ≡ digitOf (getD bs i 0 % 16)
+    → (spelled (take i bs) ++ p ∷ []) ++ q ∷ [] ≡ spelled (take (i + 1) bs)
+unfolding spelled
+spelled-more bs i p q h e f =
+    append-assoc (spelled (take i bs)) (p ∷ []) (q ∷ []) ∙ ap (λ x. spelled (take i bs) ++ x ∷ q ∷ []) e
+    ∙ ap (λ x. spelled (take i bs) ++ digitOf (getD bs i 0 / 16) ∷ x ∷ []) f
+    ∙ sym (spelled-append (take i bs) (getD bs i 0 ∷ [])) ∙ ap spelled (sym (take-more bs i 0 h))
 
 worth-back : (d : ℕ) → d < 16 → worthOf (digitOf d) ≡ d
 worth-back d h = grind (arith, tells)

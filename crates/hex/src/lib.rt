@@ -1,16 +1,20 @@
 //! Bytes in capital hexadecimal digits, two to a byte, the higher digit first.
 //!
-//! Public: `read`, `read_block`, `spell_block`.
+//! Public: `read`, `read_block`, `spell`, `spell_block`.
 ghost use mathlib.Core.Bool.{true};
 ghost use mathlib.Core.Path.{_≡_};
 ghost use Prim.Native.Nat.{_+_, _*_, _<_};
 ghost use lib.ListN.{length};
 ghost use Rattle.std.specs.Options.{Cases};
+ghost use Rattle.std.specs.Of.Vec.{vec-items};
 ghost use Rattle.std.specs.Orderings.{When};
-ghost use Rattle.cipher.specs.Bytes.{bytesOf};
-ghost use Rattle.hex.specs.Digits.{digitOf, spelled, Bytes, Unspelt, NoBlock};
+ghost use Rattle.std.specs.Vec.{made};
+ghost use Rattle.cipher.specs.Bytes.{Bytes, bytesOf};
+ghost use Rattle.hex.specs.Digits.{digitOf, spelled, Unspelt, NoBlock};
 ghost use Rattle.hex.specs.Worth.{worthOf, AllDigits, SomeOther};
 use cipher::block::Block;
+use std::alloc::AllocError;
+use std::alloc::Global;
 
 /// What a digit is worth; 16 for a byte that is no digit.
 fn worth(byte: u8) -> u8
@@ -88,4 +92,16 @@ pub fn spell_block(block: Block) -> [u8; 16]
         digits[2 * i + 1] = digit(bytes[i] % 16);
     }
     digits
+}
+
+/// The digits of bytes.
+pub fn spell(heap: Global, bytes: &[u8]) -> Result<Vec<u8>, AllocError>
+    ensures { λ r. ⌜ made r (λ v. vec-items v ≡ spelled (now (bytes .entry))) ⌝ }
+{
+    let mut digits = Vec::new(heap);
+    for byte in bytes {
+        digits.push(digit(*byte / 16))?;
+        digits.push(digit(*byte % 16))?;
+    }
+    Ok(digits)
 }

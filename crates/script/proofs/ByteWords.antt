@@ -13,7 +13,8 @@ use Rattle.std.specs.declared.result.Result.{Result}
 use Rattle.std.specs.declared.result.Result.the-variants.{Ok, Err}
 use Rattle.std.specs.declared.vec.Vec.{Vec}
 use Rattle.std.specs.Of.Vec.{vec-items}
-use Rattle.hex.specs.Digits.{spelled, Bytes}
+use Rattle.cipher.specs.Bytes.{Bytes}
+use Rattle.hex.specs.Digits.{spelled}
 use Rattle.hex.proofs.Spelling.{length-spelled}
 use Rattle.script.specs.Calls.{bytesWord, ReadBytes, SpelledBytes}
 

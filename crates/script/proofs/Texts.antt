@@ -11,7 +11,7 @@ use Rattle.std.proofs.shelf.Ways.{tells}
 use Rattle.std.specs.Text.{Utf8}
 use Rattle.std.proofs.shelf.Text.{utf8-from-ascii}
 use Rattle.script.specs.declared.verb.Verb.{Verb}
-use Rattle.script.specs.declared.verb.Verb.the-variants.{Cipher, Load, Encipher, Decipher}
+use Rattle.script.specs.declared.verb.Verb.the-variants.{Cipher, Load, Encipher, Decipher, Mode, Tag}
 use Rattle.script.specs.Calls.{Making, makingWords}
 use Rattle.script.specs.Calls.Making.{blowfish, xtea, triple}
 use Rattle.script.specs.Verbs.{verbWord}
@@ -19,11 +19,11 @@ use Rattle.script.specs.Verbs.{verbWord}
 heads : {v w : List ℕ} {vs ws : List (List ℕ)} → v ∷ vs ≡ w ∷ ws → v ≡ w
 heads {v} {w} {vs} {ws} e = cc
 
-small : List ℕ → Bool
+unfoldable pub small : List ℕ → Bool
 small [] = true
 small (b ∷ bs) = ltb b 128 && small bs
 
-ascii : (bs : List ℕ) → small bs ≡ true → (i : ℕ) → getD bs i 0 < 128
+pub ascii : (bs : List ℕ) → small bs ≡ true → (i : ℕ) → getD bs i 0 < 128
 unfolding small
 ascii [] h i = omega arith
 ascii (b ∷ bs) h zero = grind (arith, tells)
@@ -35,6 +35,8 @@ all-utf8 Cipher = utf8-from-ascii (verbWord Cipher) (ascii (verbWord Cipher) ref
 all-utf8 Load = utf8-from-ascii (verbWord Load) (ascii (verbWord Load) refl)
 all-utf8 Encipher = utf8-from-ascii (verbWord Encipher) (ascii (verbWord Encipher) refl)
 all-utf8 Decipher = utf8-from-ascii (verbWord Decipher) (ascii (verbWord Decipher) refl)
+all-utf8 Mode = utf8-from-ascii (verbWord Mode) (ascii (verbWord Mode) refl)
+all-utf8 Tag = utf8-from-ascii (verbWord Tag) (ascii (verbWord Tag) refl)
 
 pub verb-utf8 : (v : Verb) (w : List ℕ) → w ≡ verbWord v → Utf8 w
 verb-utf8 v w e = subst Utf8 (sym e) (all-utf8 v)

@@ -1,6 +1,7 @@
 -- How calls are written.
 --   Making            what a cipher is made as; makingWords are the words that say it, NoMaking that none does
 --   bytesWord bs      bytes as a word: capital hexadecimal digits, or a hyphen for none
+--   Working           what is enciphered or deciphered; workingWords are the words that say it
 --   Args v            what a call of the verb is about
 --   argWords v a      the words that say it
 --   Lawful v a        its bytes are bytes, its block is one
@@ -22,16 +23,18 @@ use Rattle.std.specs.declared.vec.Vec.{Vec}
 use Rattle.std.specs.Of.Vec.{vec-items}
 use Rattle.cipher.specs.declared.block.Block.{Block}
 use Rattle.cipher.specs.Blocks.{Sound}
-use Rattle.cipher.specs.Bytes.{bytesOf}
-use Rattle.hex.specs.Digits.{spelled, Bytes}
+use Rattle.cipher.specs.Bytes.{Bytes, bytesOf}
+use Rattle.hex.specs.Digits.{spelled}
 use Rattle.script.specs.declared.call.Call.{Call}
 use Rattle.script.specs.declared.call.Call.the-variants as call
 use Rattle.script.specs.declared.call.Make.{Make}
 use Rattle.script.specs.declared.call.Make.the-variants as make
+use Rattle.script.specs.declared.call.Work.{Work}
+use Rattle.script.specs.declared.call.Work.the-variants as work
 use Rattle.script.specs.declared.unreadable.Unreadable.{Unreadable}
 use Rattle.script.specs.declared.unreadable.Unreadable.the-variants.{UnknownVerb, Form, UnknownName, NameTaken, NotKeyed, Memory}
 use Rattle.script.specs.declared.verb.Verb.{Verb}
-use Rattle.script.specs.declared.verb.Verb.the-variants.{Cipher, Load, Encipher, Decipher}
+use Rattle.script.specs.declared.verb.Verb.the-variants.{Cipher, Load, Encipher, Decipher, Mode, Tag}
 use Rattle.script.specs.Verbs.{verbWord, NoVerb}
 
 pub data Making : Type 0 where
@@ -63,27 +66,52 @@ ReadBytes w (Ok None) = (bs : List ℕ) → Bytes bs → w ≡ bytesWord bs → 
 ReadBytes w (Ok (Some v)) = (w ≡ bytesWord (vec-items v)) × Bytes (vec-items v)
 ReadBytes w (Err e) = Unit {0}
 
--- the words are no name and no block
-abbrev pub NoNameAndBlock : List (List ℕ) → Type 0
-NoNameAndBlock ws = (name : List ℕ) (b : Block) → Sound b → ws ≡ name ∷ spelled (bytesOf b) ∷ [] → ⊥
+-- what is enciphered: a block, or a text by a mode's name from a start
+pub data Working : Type 0 where
+  one : Block → Working
+  text : List ℕ → Block → List ℕ → Working
+
+abbrev pub workingWords : Working → List (List ℕ)
+workingWords (one b) = spelled (bytesOf b) ∷ []
+workingWords (text m s t) = m ∷ spelled (bytesOf s) ∷ bytesWord t ∷ []
+
+abbrev pub LawfulWorking : Working → Type 0
+LawfulWorking (one b) = Sound b
+LawfulWorking (text m s t) = Sound s × Bytes t
+
+abbrev pub working : Work → Working
+working (work.Block b) = one b
+working (work.Text m s t) = text (m .now) s (vec-items t)
+
+-- what words say is to be enciphered, if they say something; want of memory aside
+abbrev pub ReadWork : List (List ℕ) → Result (Option Work) AllocError → Type 0
+ReadWork ws (Ok None) = (w : Working) → LawfulWorking w → ws ≡ workingWords w → ⊥
+ReadWork ws (Ok (Some x)) = (ws ≡ workingWords (working x)) × LawfulWorking (working x)
+ReadWork ws (Err e) = Unit {0}
 
 abbrev pub Args : Verb → Type 0
 Args Cipher = List ℕ × Making
 Args Load = List ℕ × List ℕ
-Args Encipher = List ℕ × Block
-Args Decipher = List ℕ × Block
+Args Encipher = List ℕ × Working
+Args Decipher = List ℕ × Working
+Args Mode = List ℕ
+Args Tag = List ℕ × List ℕ
 
 abbrev pub argWords : (v : Verb) → Args v → List (List ℕ)
 argWords Cipher a = a .0 ∷ makingWords (a .1)
 argWords Load a = a .0 ∷ bytesWord (a .1) ∷ []
-argWords Encipher a = a .0 ∷ spelled (bytesOf (a .1)) ∷ []
-argWords Decipher a = a .0 ∷ spelled (bytesOf (a .1)) ∷ []
+argWords Encipher a = a .0 ∷ workingWords (a .1)
+argWords Decipher a = a .0 ∷ workingWords (a .1)
+argWords Mode a = a ∷ []
+argWords Tag a = a .0 ∷ bytesWord (a .1) ∷ []
 
 abbrev pub Lawful : (v : Verb) → Args v → Type 0
 Lawful Cipher a = Unit {0}
 Lawful Load a = Bytes (a .1)
-Lawful Encipher a = Sound (a .1)
-Lawful Decipher a = Sound (a .1)
+Lawful Encipher a = LawfulWorking (a .1)
+Lawful Decipher a = LawfulWorking (a .1)
+Lawful Mode a = Unit {0}
+Lawful Tag a = Bytes (a .1)
 
 abbrev pub making : Make → Making
 making make.Blowfish = blowfish
@@ -93,24 +121,30 @@ making (make.Triple a b c) = triple (a .now) (b .now) (c .now)
 abbrev pub verbOf : Call → Verb
 verbOf (call.Cipher n m) = Cipher
 verbOf (call.Load n key) = Load
-verbOf (call.Encipher n b) = Encipher
-verbOf (call.Decipher n b) = Decipher
+verbOf (call.Encipher n w) = Encipher
+verbOf (call.Decipher n w) = Decipher
+verbOf (call.Mode n) = Mode
+verbOf (call.Tag n t) = Tag
 
 abbrev pub argsOf : (c : Call) → Args (verbOf c)
 argsOf (call.Cipher n m) = (n .now, making m)
 argsOf (call.Load n key) = (n .now, vec-items key)
-argsOf (call.Encipher n b) = (n .now, b)
-argsOf (call.Decipher n b) = (n .now, b)
+argsOf (call.Encipher n w) = (n .now, working w)
+argsOf (call.Decipher n w) = (n .now, working w)
+argsOf (call.Mode n) = n .now
+argsOf (call.Tag n t) = (n .now, vec-items t)
 
 abbrev pub Says : List (List ℕ) → Call → Type 0
 Says ws c = (ws ≡ verbWord (verbOf c) ∷ argWords (verbOf c) (argsOf c)) × Lawful (verbOf c) (argsOf c)
 
--- the call whose reading takes memory: a key may be of any length
+-- the calls whose reading takes memory: a key or a text may be of any length
 abbrev pub Allocates : Verb → Type 0
 Allocates Cipher = ⊥
 Allocates Load = Unit {0}
-Allocates Encipher = ⊥
-Allocates Decipher = ⊥
+Allocates Encipher = Unit {0}
+Allocates Decipher = Unit {0}
+Allocates Mode = ⊥
+Allocates Tag = Unit {0}
 
 abbrev pub Fault : Verb → List (List ℕ) → Unreadable → Type 0
 Fault v ws UnknownVerb = ⊥

@@ -1,6 +1,6 @@
 //! What a line of a script says: its words, and the call that they make.
 //!
-//! Public: `read`, with `Call` and `Make`; `Verb` with `usage`; `Unreadable` with `why`.
+//! Public: `read`, with `Call`, `Make` and `Work`; `Verb` with `usage`; `Unreadable` with `why`.
 mod call;
 mod reading;
 mod unreadable;
@@ -9,6 +9,7 @@ mod words;
 
 pub use call::Call;
 pub use call::Make;
+pub use call::Work;
 pub use reading::read;
 pub use unreadable::Unreadable;
 pub use unreadable::UnreadableDisplay;

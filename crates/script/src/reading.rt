@@ -7,16 +7,18 @@ ghost use Rattle.std.specs.Options.{Cases};
 ghost use Rattle.std.specs.Orderings.{Decides};
 ghost use Rattle.cipher.specs.Blocks.{Sound};
 ghost use Rattle.cipher.specs.Bytes.{bytesOf};
-ghost use Rattle.hex.specs.Digits.{spelled};
-ghost use Rattle.script.specs.Calls.{making, makingWords, NoMaking, ReadBytes, SpelledBytes, NoNameAndBlock, Takes, Reads};
+ghost use Rattle.cipher.specs.declared.block.Block.{Block as B};
+ghost use Rattle.hex.specs.Digits.{spelled, NoBlock};
+ghost use Rattle.script.specs.declared.call.Work.the-variants as W;
+ghost use Rattle.script.specs.Calls.{making, makingWords, NoMaking, ReadBytes, SpelledBytes, ReadWork, Takes, Reads};
 ghost use Rattle.script.specs.declared.verb.Verb.the-variants as V;
 ghost use Rattle.script.specs.Words.{words as wordsOf};
 use crate::call::Call;
 use crate::call::Make;
+use crate::call::Work;
 use crate::unreadable::Unreadable;
 use crate::verb::Verb;
 use crate::words::word;
-use cipher::block::Block;
 use std::alloc::AllocError;
 use std::alloc::Global;
 use std::str::from_utf8;
@@ -123,33 +125,100 @@ fn load<'a>(heap: Global, line: &'a [u8]) -> Result<Call<'a>, Unreadable>
     }
 }
 
-/// A name and a block, if a line has just these.
-fn name_and_block(line: &[u8]) -> Option<(&[u8], Block)>
-    ensures { λ r. ⌜ Cases r (NoNameAndBlock (wordsOf (now (line .entry)))) (λ x. (wordsOf (now (line .entry)) ≡ x .0 .now ∷ spelled (bytesOf (x .1)) ∷ []) × Sound (x .1)) ⌝ }
+/// The call that tags a text.
+fn tag<'a>(heap: Global, line: &'a [u8]) -> Result<Call<'a>, Unreadable>
+    ensures { λ r. ⌜ Takes V.Tag (wordsOf (now (line .entry))) r ⌝ }
 {
-    let (name, rest) = word(line)?;
-    let digits = last_word(rest)?;
-    let block = hex::read_block(digits)?;
-    Some((name, block))
-}
-
-/// The call that enciphers a block.
-fn encipher<'a>(line: &'a [u8]) -> Result<Call<'a>, Unreadable>
-    ensures { λ r. ⌜ Takes V.Encipher (wordsOf (now (line .entry))) r ⌝ }
-{
-    match name_and_block(line) {
-        Some((name, block)) => Ok(Call::Encipher(name, block)),
-        None => Err(Unreadable::Form(Verb::Encipher)),
+    let Some((name, rest)) = word(line) else {
+        return Err(Unreadable::Form(Verb::Tag));
+    };
+    let Some(digits) = last_word(rest) else {
+        return Err(Unreadable::Form(Verb::Tag));
+    };
+    match bytes(heap, digits) {
+        Ok(Some(text)) => Ok(Call::Tag(name, text)),
+        Ok(None) => Err(Unreadable::Form(Verb::Tag)),
+        Err(_) => Err(Unreadable::Memory),
     }
 }
 
-/// The call that deciphers a block.
-fn decipher<'a>(line: &'a [u8]) -> Result<Call<'a>, Unreadable>
+/// The call that asks for a mode.
+fn mode<'a>(line: &'a [u8]) -> Result<Call<'a>, Unreadable>
+    ensures { λ r. ⌜ Takes V.Mode (wordsOf (now (line .entry))) r ⌝ }
+{
+    match last_word(line) {
+        Some(name) => Ok(Call::Mode(name)),
+        None => Err(Unreadable::Form(Verb::Mode)),
+    }
+}
+
+/// A text by a mode: the start and the text stand in `line`, behind the mode's name.
+fn text<'a>(
+    heap: Global,
+    name: &'a [u8],
+    start: &[u8],
+    line: &[u8],
+) -> Result<Option<Work<'a>>, AllocError>
+    ensures { λ r. ⌜ ReadWork (now (name .entry) ∷ now (start .entry) ∷ wordsOf (now (line .entry))) r ⌝ }
+{
+    let Some(digits) = last_word(line) else {
+        return Ok(None);
+    };
+    let Some(start) = hex::read_block(start) else {
+        return Ok(None);
+    };
+    match bytes(heap, digits)? {
+        Some(text) => Ok(Some(Work::Text(name, start, text))),
+        None => Ok(None),
+    }
+}
+
+/// What is to be enciphered or deciphered, if a line says it.
+fn work<'a>(heap: Global, line: &'a [u8]) -> Result<Option<Work<'a>>, AllocError>
+    ensures { λ r. ⌜ ReadWork (wordsOf (now (line .entry))) r ⌝ }
+{
+    let Some((first, rest)) = word(line) else {
+        return Ok(None);
+    };
+    let Some((start, rest)) = word(rest) else {
+        return Ok(one(first));
+    };
+    text(heap, first, start, rest)
+}
+
+/// One block, if a word is one.
+fn one<'a>(digits: &'a [u8]) -> Option<Work<'a>>
+    ensures { λ r. ⌜ Cases r (NoBlock (now (digits .entry))) (λ x. (b : B) × (x ≡ W.Block b) × (spelled (bytesOf b) ≡ now (digits .entry)) × Sound b) ⌝ }
+{
+    let block = hex::read_block(digits)?;
+    Some(Work::Block(block))
+}
+
+/// The call that enciphers.
+fn encipher<'a>(heap: Global, line: &'a [u8]) -> Result<Call<'a>, Unreadable>
+    ensures { λ r. ⌜ Takes V.Encipher (wordsOf (now (line .entry))) r ⌝ }
+{
+    let Some((name, rest)) = word(line) else {
+        return Err(Unreadable::Form(Verb::Encipher));
+    };
+    match work(heap, rest) {
+        Ok(Some(work)) => Ok(Call::Encipher(name, work)),
+        Ok(None) => Err(Unreadable::Form(Verb::Encipher)),
+        Err(_) => Err(Unreadable::Memory),
+    }
+}
+
+/// The call that deciphers.
+fn decipher<'a>(heap: Global, line: &'a [u8]) -> Result<Call<'a>, Unreadable>
     ensures { λ r. ⌜ Takes V.Decipher (wordsOf (now (line .entry))) r ⌝ }
 {
-    match name_and_block(line) {
-        Some((name, block)) => Ok(Call::Decipher(name, block)),
-        None => Err(Unreadable::Form(Verb::Decipher)),
+    let Some((name, rest)) = word(line) else {
+        return Err(Unreadable::Form(Verb::Decipher));
+    };
+    match work(heap, rest) {
+        Ok(Some(work)) => Ok(Call::Decipher(name, work)),
+        Ok(None) => Err(Unreadable::Form(Verb::Decipher)),
+        Err(_) => Err(Unreadable::Memory),
     }
 }
 
@@ -173,7 +242,9 @@ fn after<'a>(heap: Global, verb: Verb, line: &'a [u8]) -> Result<Call<'a>, Unrea
     match verb {
         Verb::Cipher => cipher(line),
         Verb::Load => load(heap, line),
-        Verb::Encipher => encipher(line),
-        Verb::Decipher => decipher(line),
+        Verb::Encipher => encipher(heap, line),
+        Verb::Decipher => decipher(heap, line),
+        Verb::Mode => mode(line),
+        Verb::Tag => tag(heap, line),
     }
 }

@@ -11,6 +11,8 @@ pub enum Verb {
     Load,
     Encipher,
     Decipher,
+    Mode,
+    Tag,
 }
 
 impl Verb {
@@ -26,6 +28,8 @@ impl Verb {
             "load" => Some(Verb::Load),
             "encipher" => Some(Verb::Encipher),
             "decipher" => Some(Verb::Decipher),
+            "mode" => Some(Verb::Mode),
+            "tag" => Some(Verb::Tag),
             _ => None,
         }
     }
@@ -38,8 +42,10 @@ impl Verb {
             Verb::Cipher =>
                 "write cipher NAME blowfish, cipher NAME xtea or cipher NAME triple A B C",
             Verb::Load => "write load NAME KEY",
-            Verb::Encipher => "write encipher NAME BLOCK",
-            Verb::Decipher => "write decipher NAME BLOCK",
+            Verb::Encipher => "write encipher NAME BLOCK or encipher NAME MODE START TEXT",
+            Verb::Decipher => "write decipher NAME BLOCK or decipher NAME MODE START TEXT",
+            Verb::Mode => "write mode NAME",
+            Verb::Tag => "write tag NAME TEXT",
         }
     }
 }

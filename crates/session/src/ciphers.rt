@@ -9,16 +9,17 @@ ghost use Rattle.session.specs.State.{find, At, keyedAt, Shown};
 ghost use Rattle.std.specs.Results.{Cases as ByOk};
 ghost use Rattle.std.specs.declared.result.Result.the-variants.{Ok, Err};
 ghost use Rattle.chosen.specs.declared.Chosen.the-variants.{One};
-ghost use Rattle.script.specs.Calls.{making, verbOf, argsOf};
+ghost use Rattle.script.specs.Calls.{making, working, verbOf, argsOf};
 ghost use Rattle.script.specs.Calls.Making.{triple};
 ghost use Rattle.script.specs.Words.{words};
 ghost use Rattle.session.specs.Views.{meaning, standing};
-ghost use Rattle.session.specs.Calls.{Makes, Loads, Enciphers, Deciphers, Does};
+ghost use Rattle.session.specs.Calls.{Makes, Loads, Enciphers, Deciphers, Codes, Tags, Does};
 ghost use Rattle.session.specs.Lines.{Heard};
 ghost use Rattle.session.specs.Performed.{Making, restood};
 use crate::answer::Answer;
 use crate::answer::Value;
 use crate::entry::Entry;
+use crate::texts;
 use chosen::Chosen;
 use chosen::ChosenCipher;
 use chosen::Keyed;
@@ -28,10 +29,10 @@ use chosen::Kind;
 use cipher::BlockCipher;
 use cipher::KeyedCipher;
 use cipher::Triple;
-use cipher::block::Block;
 use script::Call;
 use script::Make;
 use script::Unreadable;
+use script::Work;
 use std::alloc::AllocError;
 use std::alloc::Global;
 
@@ -161,23 +162,52 @@ impl Ciphers {
         Answer::Accepted(Value::Nothing)
     }
 
-    /// E of a block, by the cipher that a name stands for.
-    fn encipher(&self, name: &[u8], block: Block) -> Answer
-        ensures { λ r. ⌜ Enciphers (now (name .entry)) block (standing (now (self .entry))) r (standing (now (self .entry))) ⌝ }
+    /// Enciphers a block or a text, by the cipher that a name stands for.
+    fn encipher(&self, name: &[u8], work: Work<'_>) -> Answer
+        ensures { λ r. ⌜ Enciphers (now (name .entry)) (working (work .entry)) (standing (now (self .entry))) r (standing (now (self .entry))) ⌝ }
     {
-        match self.named(name) {
-            Some(cipher) => Answer::Accepted(Value::Block(cipher.encipher(block))),
-            None => Answer::Unreadable(Unreadable::UnknownName),
+        let Some(cipher) = self.named(name) else {
+            return Answer::Unreadable(Unreadable::UnknownName);
+        };
+        match work {
+            Work::Block(block) => Answer::Accepted(Value::Block(cipher.encipher(block))),
+            Work::Text(mode, start, text) => texts::encipher(self.heap, cipher, mode, start, text),
         }
     }
 
-    /// D of a block, by the cipher that a name stands for.
-    fn decipher(&self, name: &[u8], block: Block) -> Answer
-        ensures { λ r. ⌜ Deciphers (now (name .entry)) block (standing (now (self .entry))) r (standing (now (self .entry))) ⌝ }
+    /// Deciphers a block or a text, by the cipher that a name stands for.
+    fn decipher(&self, name: &[u8], work: Work<'_>) -> Answer
+        ensures { λ r. ⌜ Deciphers (now (name .entry)) (working (work .entry)) (standing (now (self .entry))) r (standing (now (self .entry))) ⌝ }
     {
-        match self.named(name) {
-            Some(cipher) => Answer::Accepted(Value::Block(cipher.decipher(block))),
-            None => Answer::Unreadable(Unreadable::UnknownName),
+        let Some(cipher) = self.named(name) else {
+            return Answer::Unreadable(Unreadable::UnknownName);
+        };
+        match work {
+            Work::Block(block) => Answer::Accepted(Value::Block(cipher.decipher(block))),
+            Work::Text(mode, start, text) => texts::decipher(self.heap, cipher, mode, start, text),
+        }
+    }
+
+    /// The code of the mode of a name.
+    fn mode(&self, name: &[u8]) -> Answer
+        ensures { λ r. ⌜ Codes (now (name .entry)) (standing (now (self .entry))) r (standing (now (self .entry))) ⌝ }
+    {
+        match texts::mode_named(name) {
+            Ok(mode) => Answer::Accepted(Value::Code(mode.code())),
+            Err(refusal) => Answer::Refused(refusal),
+        }
+    }
+
+    /// The tag of a text, by the cipher that a name stands for.
+    fn tag(&self, name: &[u8], text: &[u8]) -> Answer
+        ensures { λ r. ⌜ Tags (now (name .entry)) (now (text .entry)) (standing (now (self .entry))) r (standing (now (self .entry))) ⌝ }
+    {
+        let Some(cipher) = self.named(name) else {
+            return Answer::Unreadable(Unreadable::UnknownName);
+        };
+        match modes::tag(cipher, text) {
+            Ok(tag) => Answer::Accepted(Value::Block(tag)),
+            Err(refusal) => Answer::Refused(refusal),
         }
     }
 
@@ -198,8 +228,10 @@ impl Ciphers {
         match call {
             Call::Cipher(name, make) => self.make(name, make),
             Call::Load(name, key) => self.load(name, key.as_slice()),
-            Call::Encipher(name, block) => self.encipher(name, block),
-            Call::Decipher(name, block) => self.decipher(name, block),
+            Call::Encipher(name, work) => self.encipher(name, work),
+            Call::Decipher(name, work) => self.decipher(name, work),
+            Call::Mode(name) => self.mode(name),
+            Call::Tag(name, text) => self.tag(name, text.as_slice()),
         }
     }
 

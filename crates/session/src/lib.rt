@@ -6,6 +6,7 @@ mod ciphers;
 mod entry;
 mod session;
 mod tally;
+mod texts;
 
 pub use answer::Answer;
 pub use answer::AnswerDisplay;

@@ -42,7 +42,7 @@ impl Session {
         ensures { λ r. ⌜ Heeded (words (now (line .entry))) (standing (now (self .entry) .ciphers)) (now (self .entry) .tally) r (standing (now (self .exit) .ciphers)) (now (self .exit) .tally) ⌝ }
     {
         let answer = self.ciphers.heed(line)?;
-        self.tally = self.tally.count(answer);
+        self.tally = self.tally.count(&answer);
         Some(answer)
     }
 

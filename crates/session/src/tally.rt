@@ -14,8 +14,8 @@ pub struct Tally {
 
 impl Tally {
     /// The tally with one answer more.
-    pub(crate) fn count(self, answer: Answer) -> Tally
-        ensures { λ r. ⌜ r ≡ counted answer self ⌝ }
+    pub(crate) fn count(self, answer: &Answer) -> Tally
+        ensures { λ r. ⌜ r ≡ counted (now (answer .entry)) self ⌝ }
     {
         let mut tally = self;
         match answer {

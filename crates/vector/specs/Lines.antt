@@ -12,10 +12,10 @@ use lib.Chars.{codes}
 use lib.ListN.{length}
 use Rattle.cipher.specs.declared.block.Block.{Block}
 use Rattle.cipher.specs.Blocks.{Sound}
-use Rattle.cipher.specs.Bytes.{bytesOf}
+use Rattle.cipher.specs.Bytes.{Bytes, bytesOf}
 use Rattle.blowfish.specs.Blowfish as blowfish
 use Rattle.blowfish.specs.Schedule.{initial, scheduled}
-use Rattle.hex.specs.Digits.{spelled, Bytes}
+use Rattle.hex.specs.Digits.{spelled}
 use Rattle.xtea.specs.Xtea as xtea
 use Rattle.xtea.specs.Xtea.{keyWords}
 

@@ -7,6 +7,7 @@ use Rattle.cipher.specs.declared.block.Block.{Block}
 use Rattle.blowfish.specs.Blowfish as blowfish
 use Rattle.blowfish.specs.Blowfish.{combined}
 use Rattle.blowfish.specs.Schedule.{initial, keyWord, scheduled}
+use Rattle.modes.specs.Cmac.{doubled}
 use Rattle.xtea.specs.Xtea as xtea
 use Rattle.xtea.specs.Xtea.{cycled, keyWords}
 
@@ -32,3 +33,5 @@ pub record Table : Type 0 where
   pub xtea-vector : xtea.enciphered (keyWords sixteenBytes) (block 0x41424344 0x45464748) ≡ block 0x497DF3D0 0x72612CB5
   -- Blowfish whole, key schedule and all, under eight zero bytes, over the zero block
   pub blowfish-vector : blowfish.enciphered (scheduled initial (replicate 8 0)) (block 0 0) ≡ block 0x4EF99745 0x6198DD78
+  -- 8000000000000000 doubled
+  pub top-bit-doubled : doubled (block 0x80000000 0) ≡ block 0 0x1B

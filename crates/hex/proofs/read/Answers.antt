@@ -4,7 +4,8 @@ use Prim.Native.Nat.{_+_, _*_, _≤_}
 use native.Mathlib.Omega.{arith}
 use lib.ListN.{length}
 use Rattle.std.proofs.shelf.Lists.{take-all}
-use Rattle.hex.specs.Digits.{spelled, Bytes}
+use Rattle.cipher.specs.Bytes.{Bytes}
+use Rattle.hex.specs.Digits.{spelled}
 use Rattle.hex.proofs.Spelling.{read-more, bytes-more, unspelt-length, unspelt-other}
 use Rattle.hex.proofs.read.Needs as need
 

@@ -1,7 +1,8 @@
 use mathlib.Core.Path.{_≡_}
 use Prim.Native.Nat.{_*_}
 use lib.ListN.{take}
-use Rattle.hex.specs.Digits.{spelled, Bytes}
+use Rattle.cipher.specs.Bytes.{Bytes}
+use Rattle.hex.specs.Digits.{spelled}
 use Rattle.hex.proofs.read.Given as given
 
 abbrev pub Inv-loop-i : given.InvT-loop-i

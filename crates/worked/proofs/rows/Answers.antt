@@ -9,4 +9,4 @@ use Rattle.worked.proofs.rows.Needs as need
 
 pub returns : need.returns
 unfolding cycled xtea.cycles blowfish.enciphering oddRound evenRound initial scheduled filled filledP filledBox stepP stepS mixed mixWord
-returns c = record { table = record { key-words = (refl, refl, refl); f-of-words = refl; first-cycle = refl; xtea-vector = refl; blowfish-vector = refl }; count = c .count .ensures }
+returns c = record { table = record { key-words = (refl, refl, refl); f-of-words = refl; first-cycle = refl; xtea-vector = refl; blowfish-vector = refl; top-bit-doubled = refl }; count = c .count .ensures }

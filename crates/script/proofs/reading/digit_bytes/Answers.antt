@@ -4,7 +4,8 @@ use Prim.Native.Nat.{_*_}
 use native.Mathlib.Omega.{arith}
 use lib.ListN.{length}
 use Rattle.std.proofs.shelf.Lists.{refilled-is}
-use Rattle.hex.specs.Digits.{spelled, Bytes}
+use Rattle.cipher.specs.Bytes.{Bytes}
+use Rattle.hex.specs.Digits.{spelled}
 use Rattle.hex.proofs.Spelling.{length-spelled}
 use Rattle.script.proofs.reading.digit_bytes.Needs as need
 

@@ -1,6 +1,6 @@
 use borrow.Author.Needs.{needs}
 use mathlib.Core.Path.{refl, subst}
-use Rattle.session.specs.Calls.{Loads}
+use Rattle.session.specs.Calls.{Loads, Tags}
 use Rattle.session.specs.Views.{standing}
 use Rattle.session.proofs.Performing.{does-at}
 use Rattle.session.proofs.ciphers.Ciphers.perform.Needs as need
@@ -18,3 +18,11 @@ returns-in-Encipher c = does-at (c .args .call) _ _ _ (standing (c .args .self .
 
 pub returns-in-Decipher : need.returns-in-Decipher
 returns-in-Decipher c = does-at (c .args .call) _ _ _ (standing (c .args .self .now)) _ (c .in-Decipher .is) (search needs) (c .decipher .ensures)
+
+pub returns-in-Mode : need.returns-in-Mode
+returns-in-Mode c = does-at (c .args .call) _ _ _ (standing (c .args .self .now)) _ (c .in-Mode .is) (search needs) (c .mode .ensures)
+
+pub returns-in-Tag : need.returns-in-Tag
+returns-in-Tag c =
+    does-at (c .args .call) _ _ _ (standing (c .args .self .now)) _ (c .in-Tag .is) (search needs)
+    (subst (λ z. Tags (c .in-Tag .name .now) z (standing (c .args .self .now)) (c .tag .result) (standing (c .args .self .now))) (c .as-slice-in-Tag .ensures .value) (c .tag .ensures))

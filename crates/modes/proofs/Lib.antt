@@ -1,0 +1,4 @@
+pub mod Back
+pub mod Joins
+pub mod Marks
+pub mod Pieces
