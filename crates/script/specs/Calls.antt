@@ -12,6 +12,7 @@
 use mathlib.Core.List.{List, [], _∷_}
 use mathlib.Core.Path.{_≡_}
 use Prim.Native.Nat.{ℕ}
+use denote.Ref.{RefT}
 use lib.Chars.{codes}
 use Rattle.std.specs.declared.option.Option.{Option}
 use Rattle.std.specs.declared.option.Option.the-variants.{None, Some}
@@ -88,6 +89,17 @@ abbrev pub ReadWork : List (List ℕ) → Result (Option Work) AllocError → Ty
 ReadWork ws (Ok None) = (w : Working) → LawfulWorking w → ws ≡ workingWords w → ⊥
 ReadWork ws (Ok (Some x)) = (ws ≡ workingWords (working x)) × LawfulWorking (working x)
 ReadWork ws (Err e) = Unit {0}
+
+-- a name before such words
+abbrev pub NamedBytes : List (List ℕ) → Result (Option (RefT (List ℕ) × Vec ℕ Global)) AllocError → Type 0
+NamedBytes ws (Ok None) = (a : List ℕ × List ℕ) → Bytes (a .1) → ws ≡ a .0 ∷ bytesWord (a .1) ∷ [] → ⊥
+NamedBytes ws (Ok (Some x)) = (ws ≡ x .0 .now ∷ bytesWord (vec-items (x .1)) ∷ []) × Bytes (vec-items (x .1))
+NamedBytes ws (Err e) = Unit {0}
+
+abbrev pub NamedWork : List (List ℕ) → Result (Option (RefT (List ℕ) × Work)) AllocError → Type 0
+NamedWork ws (Ok None) = (a : List ℕ × Working) → LawfulWorking (a .1) → ws ≡ a .0 ∷ workingWords (a .1) → ⊥
+NamedWork ws (Ok (Some x)) = (ws ≡ x .0 .now ∷ workingWords (working (x .1))) × LawfulWorking (working (x .1))
+NamedWork ws (Err e) = Unit {0}
 
 abbrev pub Args : Verb → Type 0
 Args Cipher = List ℕ × Making

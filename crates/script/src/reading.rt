@@ -10,7 +10,7 @@ ghost use Rattle.cipher.specs.Bytes.{bytesOf};
 ghost use Rattle.cipher.specs.declared.block.Block.{Block as B};
 ghost use Rattle.hex.specs.Digits.{spelled, NoBlock};
 ghost use Rattle.script.specs.declared.call.Work.the-variants as W;
-ghost use Rattle.script.specs.Calls.{making, makingWords, NoMaking, ReadBytes, SpelledBytes, ReadWork, Takes, Reads};
+ghost use Rattle.script.specs.Calls.{making, makingWords, NoMaking, ReadBytes, SpelledBytes, ReadWork, NamedBytes, NamedWork, Takes, Reads};
 ghost use Rattle.script.specs.declared.verb.Verb.the-variants as V;
 ghost use Rattle.script.specs.Words.{words as wordsOf};
 use crate::call::Call;
@@ -108,18 +108,31 @@ fn cipher<'a>(line: &'a [u8]) -> Result<Call<'a>, Unreadable>
     }
 }
 
+/// A name and bytes, if a line has just these.
+fn name_and_bytes<'a>(
+    heap: Global,
+    line: &'a [u8],
+) -> Result<Option<(&'a [u8], Vec<u8>)>, AllocError>
+    ensures { λ r. ⌜ NamedBytes (wordsOf (now (line .entry))) r ⌝ }
+{
+    let Some((name, rest)) = word(line) else {
+        return Ok(None);
+    };
+    let Some(digits) = last_word(rest) else {
+        return Ok(None);
+    };
+    match bytes(heap, digits)? {
+        Some(said) => Ok(Some((name, said))),
+        None => Ok(None),
+    }
+}
+
 /// The call that loads a key.
 fn load<'a>(heap: Global, line: &'a [u8]) -> Result<Call<'a>, Unreadable>
     ensures { λ r. ⌜ Takes V.Load (wordsOf (now (line .entry))) r ⌝ }
 {
-    let Some((name, rest)) = word(line) else {
-        return Err(Unreadable::Form(Verb::Load));
-    };
-    let Some(digits) = last_word(rest) else {
-        return Err(Unreadable::Form(Verb::Load));
-    };
-    match bytes(heap, digits) {
-        Ok(Some(key)) => Ok(Call::Load(name, key)),
+    match name_and_bytes(heap, line) {
+        Ok(Some((name, key))) => Ok(Call::Load(name, key)),
         Ok(None) => Err(Unreadable::Form(Verb::Load)),
         Err(_) => Err(Unreadable::Memory),
     }
@@ -129,14 +142,8 @@ fn load<'a>(heap: Global, line: &'a [u8]) -> Result<Call<'a>, Unreadable>
 fn tag<'a>(heap: Global, line: &'a [u8]) -> Result<Call<'a>, Unreadable>
     ensures { λ r. ⌜ Takes V.Tag (wordsOf (now (line .entry))) r ⌝ }
 {
-    let Some((name, rest)) = word(line) else {
-        return Err(Unreadable::Form(Verb::Tag));
-    };
-    let Some(digits) = last_word(rest) else {
-        return Err(Unreadable::Form(Verb::Tag));
-    };
-    match bytes(heap, digits) {
-        Ok(Some(text)) => Ok(Call::Tag(name, text)),
+    match name_and_bytes(heap, line) {
+        Ok(Some((name, text))) => Ok(Call::Tag(name, text)),
         Ok(None) => Err(Unreadable::Form(Verb::Tag)),
         Err(_) => Err(Unreadable::Memory),
     }
@@ -194,15 +201,28 @@ fn one<'a>(digits: &'a [u8]) -> Option<Work<'a>>
     Some(Work::Block(block))
 }
 
+/// A name and what is to be enciphered or deciphered, if a line has just these.
+fn name_and_work<'a>(
+    heap: Global,
+    line: &'a [u8],
+) -> Result<Option<(&'a [u8], Work<'a>)>, AllocError>
+    ensures { λ r. ⌜ NamedWork (wordsOf (now (line .entry))) r ⌝ }
+{
+    let Some((name, rest)) = word(line) else {
+        return Ok(None);
+    };
+    match work(heap, rest)? {
+        Some(said) => Ok(Some((name, said))),
+        None => Ok(None),
+    }
+}
+
 /// The call that enciphers.
 fn encipher<'a>(heap: Global, line: &'a [u8]) -> Result<Call<'a>, Unreadable>
     ensures { λ r. ⌜ Takes V.Encipher (wordsOf (now (line .entry))) r ⌝ }
 {
-    let Some((name, rest)) = word(line) else {
-        return Err(Unreadable::Form(Verb::Encipher));
-    };
-    match work(heap, rest) {
-        Ok(Some(work)) => Ok(Call::Encipher(name, work)),
+    match name_and_work(heap, line) {
+        Ok(Some((name, work))) => Ok(Call::Encipher(name, work)),
         Ok(None) => Err(Unreadable::Form(Verb::Encipher)),
         Err(_) => Err(Unreadable::Memory),
     }
@@ -212,11 +232,8 @@ fn encipher<'a>(heap: Global, line: &'a [u8]) -> Result<Call<'a>, Unreadable>
 fn decipher<'a>(heap: Global, line: &'a [u8]) -> Result<Call<'a>, Unreadable>
     ensures { λ r. ⌜ Takes V.Decipher (wordsOf (now (line .entry))) r ⌝ }
 {
-    let Some((name, rest)) = word(line) else {
-        return Err(Unreadable::Form(Verb::Decipher));
-    };
-    match work(heap, rest) {
-        Ok(Some(work)) => Ok(Call::Decipher(name, work)),
+    match name_and_work(heap, line) {
+        Ok(Some((name, work))) => Ok(Call::Decipher(name, work)),
         Ok(None) => Err(Unreadable::Form(Verb::Decipher)),
         Err(_) => Err(Unreadable::Memory),
     }

@@ -19,10 +19,10 @@ module _ (m : List ℕ) (k : Mode) (E : Block → Block) (c : Block) (named : m 
       → y ≡ new → Texted b y r → Enciphered m E c z r
   enciphered-as z old new y b r e h f (texted v g w) =
       was-enciphered k b v named (subst Whole e (h .0)) g (h .2 ∙ ap (following k E c) e) (w ∙ ap bytesWord (f ∙ h .1 ∙ ap (enciphered k E c) e))
-  enciphered-as z old new y b r e h f (no-memory g) = no-answer g
+  enciphered-as z old new y b r e h f (no-memory g) = no-answer k named (subst Whole e (h .0)) g
 
   pub deciphered-as : (z old new y : List ℕ) (b : Block) (r : Answer) → old ≡ z → Whole old × OneText k E c old new × (b ≡ following k E c new)
       → y ≡ new → Texted b y r → Deciphered m E c z r
   deciphered-as z old new y b r e h f (texted v g w) =
       was-deciphered k b v new named (subst (λ x. OneText k E c x new) e (h .1)) g (h .2) (w ∙ ap bytesWord f)
-  deciphered-as z old new y b r e h f (no-memory g) = unanswered g
+  deciphered-as z old new y b r e h f (no-memory g) = unanswered k named (subst Whole e (h .0)) g

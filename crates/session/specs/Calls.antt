@@ -65,11 +65,12 @@ made s blowfish = Ok freshBlowfish
 made s xtea = Ok freshXtea
 made s (triple a b c) = then (keyedAt a s) (λ p. then (keyedAt b s) (λ q. then (keyedAt c s) (λ o. Ok (ede p q o))))
 
+-- memory is asked for last, where the call is accepted otherwise
 pub data Makes (n : List ℕ) (m : Making) (s : State) (r : Answer) (t : State) : Type 0 where
   taken : (x : Meaning) → find n s ≡ Some x → r ≡ unreadable why.NameTaken → t ≡ s → Makes n m s r t
   unmade : (u : Unreadable) → find n s ≡ None → made s m ≡ Err u → r ≡ unreadable u → t ≡ s → Makes n m s r t
   makes : (x : Meaning) → find n s ≡ None → made s m ≡ Ok x → r ≡ Accepted value.Nothing → t ≡ s ++ (n, x) ∷ [] → Makes n m s r t
-  no-memory : r ≡ unreadable why.Memory → t ≡ s → Makes n m s r t
+  no-memory : (x : Meaning) → find n s ≡ None → made s m ≡ Ok x → r ≡ unreadable why.Memory → t ≡ s → Makes n m s r t
 
 pub data Loads (n key : List ℕ) (s : State) (r : Answer) (t : State) : Type 0 where
   unkeyed : (u : Unreadable) → keyedAt n s ≡ Err u → r ≡ unreadable u → t ≡ s → Loads n key s r t
@@ -81,7 +82,7 @@ pub data Loads (n key : List ℕ) (s : State) (r : Answer) (t : State) : Type 0 
 pub data Enciphered (m : List ℕ) (E : Block → Block) (c : Block) (z : List ℕ) (r : Answer) : Type 0 where
   no-mode : (e : Refusal) → Unnamed m → r ≡ Refused e → numberOf e ≡ 18 → Enciphered m E c z r
   not-whole : (k : mode.Mode) (e : Refusal) → m ≡ called k .0 → (Whole z → ⊥) → r ≡ Refused e → numberOf e ≡ 17 → Enciphered m E c z r
-  no-memory : r ≡ unreadable why.Memory → Enciphered m E c z r
+  no-memory : (k : mode.Mode) → m ≡ called k .0 → Whole z → r ≡ unreadable why.Memory → Enciphered m E c z r
   done : (k : mode.Mode) (b : Block) (v : Vec ℕ Global) → m ≡ called k .0 → Whole z → r ≡ Accepted (value.Text b v) → b ≡ following k E c z
       → vec-items v ≡ bytesWord (enciphered k E c z) → Enciphered m E c z r
 
@@ -89,7 +90,7 @@ pub data Enciphered (m : List ℕ) (E : Block → Block) (c : Block) (z : List �
 pub data Deciphered (m : List ℕ) (E : Block → Block) (c : Block) (z : List ℕ) (r : Answer) : Type 0 where
   no-mode : (e : Refusal) → Unnamed m → r ≡ Refused e → numberOf e ≡ 18 → Deciphered m E c z r
   not-whole : (k : mode.Mode) (e : Refusal) → m ≡ called k .0 → (Whole z → ⊥) → r ≡ Refused e → numberOf e ≡ 17 → Deciphered m E c z r
-  no-memory : r ≡ unreadable why.Memory → Deciphered m E c z r
+  no-memory : (k : mode.Mode) → m ≡ called k .0 → Whole z → r ≡ unreadable why.Memory → Deciphered m E c z r
   done : (k : mode.Mode) (b : Block) (v : Vec ℕ Global) (y : List ℕ) → m ≡ called k .0 → OneText k E c z y → r ≡ Accepted (value.Text b v)
       → b ≡ following k E c y → vec-items v ≡ bytesWord y → Deciphered m E c z r
 

@@ -1,6 +1,6 @@
 use borrow.Author.Needs.{needs}
 use mathlib.Core.Path.{refl, sym}
-use Rattle.session.specs.Calls.Makes.{taken, unmade, makes}
+use Rattle.session.specs.Calls.Makes.{taken, unmade, makes, no-memory}
 use Rattle.session.proofs.ciphers.Ciphers.make.Needs as need
 
 pub returns-in-Some : need.returns-in-Some
@@ -11,3 +11,6 @@ returns-in-Err c = unmade _ (sym (c .in-rest .ensures tt)) (c .in-Err .ensures t
 
 pub returns-in-Ok-join : need.returns-in-Ok-join
 returns-in-Ok-join c = makes _ (sym (c .in-rest .ensures tt)) (c .in-Ok .ensures tt) refl (c .in-Ok-join .ensures tt)
+
+pub returns-in-Err-join : need.returns-in-Err-join
+returns-in-Err-join c = no-memory _ (sym (c .in-rest .ensures tt)) (c .in-Ok .ensures tt) refl (c .in-Err-join .ensures tt)
