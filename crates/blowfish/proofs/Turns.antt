@@ -3,7 +3,7 @@ use Rattle.std.proofs.Common.{◌≡◌, ℕ, zero, suc, ◌+◌, ◌*◌, sym, 
 use lib.Bits.{bit_xor, xor_assoc, xor_comm}
 use Rattle.cipher.specs.declared.block.Block.{Block}
 use Rattle.cipher.specs.Rounds.{rounds}
-use Rattle.cipher.proofs.Blocks.{same}
+use Rattle.cipher.specs.Inverses.{same}
 use Rattle.blowfish.specs.declared.tables.Blowfish.{Blowfish}
 use Rattle.blowfish.specs.Blowfish.{pword, f, odd_round, even_round, pair, begun, exchanged, enciphering, turned}
 

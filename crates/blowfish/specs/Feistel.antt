@@ -4,7 +4,7 @@ use Rattle.std.specs.Prelude.{ℕ, ◌+◌, ◌*◌, ◌^◌, ◌<◌, bit_xor}
 use Rattle.std.specs.Int.Bits.{xor_lt}
 use Rattle.cipher.specs.Blocks.{Inverse}
 use Rattle.cipher.specs.Rounds.{rounds, unrounds}
-use Rattle.cipher.proofs.Blocks.{same, inverse-then, inverse-rounds}
+use Rattle.cipher.specs.Inverses.{same, inverse-then, inverse-rounds}
 use Rattle.cipher.proofs.Words.{xor_twice}
 use Rattle.blowfish.specs.declared.tables.Blowfish.{Blowfish}
 use Rattle.blowfish.specs.Blowfish.{pword, f, odd_round, even_round, odd_back_of, even_back_of, pair, pair_back, begun, exchanged, enciphering, deciphering, enciphered, deciphered}

@@ -1,6 +1,8 @@
 //! Blowfish: sixteen rounds over tables that a key of 4 to 56 bytes makes out of the digits of pi.
 //!
 //! Public: `Blowfish`, with `new`, and the calls of `BlockCipher` and `KeyedCipher`.
+#![tactic(auto)]
+
 ghost use Rattle.std.specs.Prelude.{MatchBool};
 ghost use Rattle.blowfish.specs.Blowfish.{enciphered, deciphered};
 ghost use Rattle.blowfish.specs.Schedule.{initial, scheduled, Takes};

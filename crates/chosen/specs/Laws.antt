@@ -4,7 +4,7 @@ use Rattle.std.proofs.Common.{sym, ap, subst}
 use Rattle.blowfish.specs.Feistel as blowfish
 use Rattle.cipher.specs.Blocks.{Inverse}
 use Rattle.cipher.specs.Keys.{Alike}
-use Rattle.cipher.proofs.Blocks.{inverse-triple}
+use Rattle.cipher.specs.Inverses.{inverse-triple}
 use Rattle.xtea.specs.Cycles as xtea
 use Rattle.chosen.specs.declared.Chosen.{Chosen}
 use Rattle.chosen.specs.declared.Chosen.TheVariants.{One, Three}

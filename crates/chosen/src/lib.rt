@@ -2,6 +2,8 @@
 //!
 //! Public: `Kind` with `name`; `Keyed` with `blowfish`, `xtea` and the calls of `BlockCipher` and
 //! `KeyedCipher`; `Chosen` with `kind` and the calls of `BlockCipher`.
+#![tactic(auto)]
+
 ghost use Rattle.std.specs.Prelude.{◌≡◌, length};
 ghost use Rattle.refusal.specs.Refusals.{Answers};
 ghost use Rattle.cipher.specs.Keys.{Alike};

@@ -4,3 +4,4 @@ pub mod Eights
 pub mod Keys
 pub mod Rounds
 pub mod Words
+pub mod Inverses

@@ -3,6 +3,8 @@
 //! `BlockCipher` has two functions on blocks, E and D, that undo each other; `KeyedCipher` also loads keys;
 //! `Triple` joins three ciphers to one. Public: `block::Block` with `from_bytes` and `to_bytes`,
 //! `BlockCipher`, `KeyedCipher`, `Triple`, `encipher_under`.
+#![tactic(auto)]
+
 ghost use Rattle.std.specs.Prelude.{◌≡◌, ℕ, List, length};
 ghost use Rattle.refusal.specs.Refusals.{Answers};
 ghost use Rattle.cipher.specs.declared.block.Block.{Block as B};

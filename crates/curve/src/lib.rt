@@ -2,6 +2,8 @@
 //!
 //! A curve is given by a list of stages and a list of flows. Public: `makes_curve`, `flow`, and
 //! `any_pair_gives_the_flow`, which does nothing and whose contract is the laws of curves.
+#![tactic(auto)]
+
 ghost use Rattle.std.specs.Prelude.{◌≡◌, ◌+◌, ◌-◌, ◌*◌, ◌/◌, ◌<◌, ◌≤◌, length, ◌≤ℤ◌, Decides};
 ghost use Rattle.curve.specs.Answers.{InRange, Step, HoldsAt, Found, Lawfully};
 ghost use Rattle.curve.specs.Curves.{pair, points, Makes, above, flow_between};

@@ -1,4 +1,6 @@
 //! Runs a script of calls from standard input, and prints an account of it.
+#![tactic(auto)]
+
 use session::Session;
 use std::io;
 use std::io::{BufRead, BufReader, BufWriter, Write};

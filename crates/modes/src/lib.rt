@@ -1,6 +1,8 @@
 //! Modes and tag: whole texts by any block cipher, in place in one buffer.
 //!
 //! Public: `Mode` with `by_name`, `name` and `code`; `encipher`, `decipher`, `tag`.
+#![tactic(auto)]
+
 ghost use Rattle.std.specs.Prelude.{MatchBool};
 ghost use Rattle.modes.specs.Texts.{WholeLength, Enciphers, Deciphers, Back, InPieces};
 

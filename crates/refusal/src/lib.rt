@@ -2,6 +2,8 @@
 //!
 //! A refusal rises through the layers unaltered, and its number tells where it comes from.
 //! Public: `Refusal`, with `number`, `layer`, `reason` and `Display`; `Layer`.
+#![tactic(auto)]
+
 ghost use Rattle.std.specs.Prelude.{◌≡◌, ◌≤◌, ◌∷◌, ◌++◌, Some, decimal};
 ghost use Rattle.refusal.specs.declared.Refusal.{Refusal as Reason};
 ghost use Rattle.refusal.specs.Refusals.{number_of, layer_of, reason_of};

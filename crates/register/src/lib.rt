@@ -3,6 +3,8 @@
 //! What each call does is its rule in `rules`, at the register's `meaning`, which hides the places. Public: `Core` with
 //! `new`, `publish`, `withdraw`, `convert`, and to look things up `station`, `serial`, `is_in_force`, `is_withdrawn`,
 //! `points`, `next_in_force`, `next_withdrawn`.
+#![tactic(auto)]
+
 mod convert;
 mod fill;
 mod looks;

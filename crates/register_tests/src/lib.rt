@@ -1,4 +1,6 @@
 //! Tests of the register at the ends of every range. What a call answers is given by number, 0 where it was accepted.
+#![tactic(auto)]
+
 #[cfg(test)]
 mod tests {
     use refusal::Refusal;

@@ -6,6 +6,8 @@
 //! Public: the promises `withdrawn_stays_withdrawn`, `starting_blocks_differ`, `flows_come_from_a_publish`; and the
 //! laws `calls_carry_runs_on`, `calls_are_pinned`, `calls_keep_registers_lawful`, `refused_calls_change_nothing`,
 //! `serials_count_seals`, `room_is_weighed_after_withdrawals`, `bundles_say_one_thing`, `sealed_parcels_are_read`.
+#![tactic(auto)]
+
 ghost use Rattle.rules.specs.Laws.{EveryRun, EveryCall, Pinned, StaysLawful, RefusedKeeps, SerialCounts, RoomExactly, BundleLaws, ParcelLaws};
 ghost use Rattle.rules.specs.Runs.{WithdrawnStaysWithdrawn, StartingBlocksDiffer, FlowsComeFromAPublish};
 

@@ -3,8 +3,8 @@ use Rattle.std.proofs.Common.{◌≡◌, ℕ, List, [], ◌∷◌, length, Some,
 use Rattle.std.specs.declared.alloc.AllocError.{AllocError}
 use Rattle.std.specs.declared.alloc.Global.{Global}
 use Rattle.cipher.specs.Bytes.{Bytes}
-use Rattle.hex.specs.Digits.{spelled}
-use Rattle.hex.proofs.Spelling.{length-spelled}
+use Rattle.hex_digits.specs.Digits.{spelled}
+use Rattle.hex_digits.proofs.Spelling.{length-spelled}
 use Rattle.script.specs.Calls.{bytes_word, ReadBytes, SpelledBytes}
 
 -- the empty word says none

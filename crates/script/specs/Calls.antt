@@ -16,7 +16,7 @@ use Rattle.std.specs.declared.alloc.Global.{Global}
 use Rattle.cipher.specs.declared.block.Block.{Block}
 use Rattle.cipher.specs.Blocks.{Sound}
 use Rattle.cipher.specs.Bytes.{Bytes, bytes_of}
-use Rattle.hex.specs.Digits.{spelled}
+use Rattle.hex_digits.specs.Digits.{spelled}
 use Rattle.script.specs.declared.call.Call.{Call}
 use Rattle.script.specs.declared.call.Call.TheVariants as call
 use Rattle.script.specs.declared.call.Make.{Make}

@@ -1,6 +1,8 @@
 //! What a line of a script says: its words, and the call that they make.
 //!
 //! Public: `read`, with `Call`, `Make` and `Work`; `Verb` with `usage`; `Unreadable` with `why`.
+#![tactic(auto)]
+
 mod call;
 mod reading;
 mod unreadable;

@@ -3,7 +3,7 @@ ghost use Rattle.std.specs.Prelude.{◌≡◌, ℕ, List, [], ◌∷◌, codes, 
 ghost use Rattle.cipher.specs.Blocks.{Sound};
 ghost use Rattle.cipher.specs.Bytes.{bytes_of};
 ghost use Rattle.cipher.specs.declared.block.Block.{Block as B};
-ghost use Rattle.hex.specs.Digits.{spelled, NoBlock};
+ghost use Rattle.hex_digits.specs.Digits.{spelled, NoBlock};
 ghost use Rattle.script.specs.declared.call.Work.TheVariants as W;
 ghost use Rattle.script.specs.Calls.{making, making_words, NoMaking, ReadBytes, SpelledBytes, ReadWork, NamedBytes, NamedWork, Takes, Reads};
 ghost use Rattle.script.specs.declared.verb.Verb.TheVariants as V;
@@ -81,7 +81,7 @@ fn digit_bytes(heap: Global, digits: &[u8]) -> Result<Option<Vec<u8>>, AllocErro
     ensures { SpelledBytes digits.now result }
 {
     let mut bytes = vec![in heap; 0; digits.len() / 2]?;
-    if hex::read(digits, bytes.as_mut_slice()) {
+    if hex_digits::read(digits, bytes.as_mut_slice()) {
         Ok(Some(bytes))
     } else {
         Ok(None)
@@ -164,7 +164,7 @@ fn text<'a>(
     let Some(digits) = last_word(line) else {
         return Ok(None);
     };
-    let Some(start) = hex::read_block(start) else {
+    let Some(start) = hex_digits::read_block(start) else {
         return Ok(None);
     };
     match bytes(heap, digits)? {
@@ -190,7 +190,7 @@ fn work<'a>(heap: Global, line: &'a [u8]) -> Result<Option<Work<'a>>, AllocError
 fn one<'a>(digits: &'a [u8]) -> Option<Work<'a>>
     ensures { MatchOption result (NoBlock digits.now) (λ x. (b : B) × (x ≡ W.Block b) × (spelled (bytes_of b) ≡ digits.now) × Sound b) }
 {
-    let block = hex::read_block(digits)?;
+    let block = hex_digits::read_block(digits)?;
     Some(Work::Block(block))
 }
 

@@ -2,7 +2,7 @@
 --   shown_answer a    its text
 use Rattle.std.specs.Prelude.{ℕ, List, ◌∷◌, ◌++◌, vec_items, codes, decimal}
 use Rattle.cipher.specs.Bytes.{bytes_of}
-use Rattle.hex.specs.Digits.{spelled}
+use Rattle.hex_digits.specs.Digits.{spelled}
 use Rattle.refusal.specs.Refusals.{number_of, reason_of}
 use Rattle.script.specs.Reasons.{why_of}
 use Rattle.session.specs.declared.answer.Answer.{Answer}

@@ -34,14 +34,14 @@ impl fmt::Display for Answer {
             Answer::Accepted(Value::Nothing) => f.write_str("accepted"),
             Answer::Accepted(Value::Code(code)) => write!(f, "accepted {code}"),
             Answer::Accepted(Value::Block(block)) => {
-                let digits = hex::spell_block(*block);
+                let digits = hex_digits::spell_block(*block);
                 match from_utf8(&digits) {
                     Ok(text) => write!(f, "accepted {text}"),
                     Err(_) => Err(fmt::Error),
                 }
             }
             Answer::Accepted(Value::Text(next, word)) => {
-                let digits = hex::spell_block(*next);
+                let digits = hex_digits::spell_block(*next);
                 match (from_utf8(&digits), from_utf8(word.as_slice())) {
                     (Ok(next), Ok(text)) => write!(f, "accepted {next} {text}"),
                     _ => Err(fmt::Error),

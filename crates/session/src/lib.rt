@@ -1,6 +1,8 @@
 //! What the lines of a script come to: ciphers under names, and the calls on them.
 //!
 //! Public: `Session` with `new`, `line`, `tally` and `cipher`; `Answer` and its `Value`; `Tally` with `calls`.
+#![tactic(auto)]
+
 mod answer;
 mod ciphers;
 mod entry;

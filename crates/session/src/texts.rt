@@ -34,7 +34,7 @@ fn word_of(heap: Global, bytes: &[u8]) -> Result<Vec<u8>, AllocError>
     if bytes.is_empty() {
         return Vec::from_slice(heap, b"-");
     }
-    hex::spell(heap, bytes)
+    hex_digits::spell(heap, bytes)
 }
 
 /// The answer with the block with which a following piece starts, and a text.

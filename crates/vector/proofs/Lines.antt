@@ -4,8 +4,8 @@ use Rattle.std.proofs.lemmas.List.{length-append, take_at, drop_at, get_or_at, l
 use Rattle.cipher.specs.declared.block.Block.{Block}
 use Rattle.cipher.specs.Bytes.{block_of, bytes_of}
 use Rattle.cipher.proofs.Bytes.{block_of-bytes_of}
-use Rattle.hex.specs.Digits.{spelled, Unspelt, NoBlock}
-use Rattle.hex.proofs.Spelling.{length-spelled, spelled-one, bytes_of-bytes}
+use Rattle.hex_digits.specs.Digits.{spelled, Unspelt, NoBlock}
+use Rattle.hex_digits.proofs.Spelling.{length-spelled, spelled-one, bytes_of-bytes}
 use Rattle.vector.specs.Lines.{Parted, Whole, Vector, Foreign, Serves, hyphen}
 
 -- a line is parted in one way

@@ -11,7 +11,7 @@ use Rattle.cipher.specs.Blocks.{Sound}
 use Rattle.cipher.specs.Bytes.{Bytes, bytes_of}
 use Rattle.blowfish.specs.Blowfish as blowfish
 use Rattle.blowfish.specs.Schedule.{initial, scheduled}
-use Rattle.hex.specs.Digits.{spelled}
+use Rattle.hex_digits.specs.Digits.{spelled}
 use Rattle.xtea.specs.Xtea as xtea
 use Rattle.xtea.specs.Xtea.{key_words}
 

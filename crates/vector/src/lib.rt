@@ -1,9 +1,11 @@
 //! One line of test vectors, a key and a plaintext, and the line that answers it.
 //!
 //! Public: `answer`, and `Reply` with `bytes`.
+#![tactic(auto)]
+
 ghost use Rattle.std.specs.Prelude.{◌≡◌, ◌≤◌, length, MatchOption};
 ghost use Rattle.cipher.specs.Bytes.{bytes_of};
-ghost use Rattle.hex.specs.Digits.{spelled};
+ghost use Rattle.hex_digits.specs.Digits.{spelled};
 ghost use Rattle.vector.specs.Lines.{Parted, Whole, Serves, Answered};
 ghost use Rattle.vector.specs.Replies.{reply_bytes};
 
@@ -51,10 +53,10 @@ fn under<K: KeyedCipher>(cipher: &mut K, key: &mut [u8], line: &[u8]) -> Reply
     let Some((digits, text)) = parted(line, 2 * key.len()) else {
         return Reply::Hyphen;
     };
-    let Some(block) = hex::read_block(text) else {
+    let Some(block) = hex_digits::read_block(text) else {
         return Reply::Hyphen;
     };
-    if !hex::read(digits, key) {
+    if !hex_digits::read(digits, key) {
         return Reply::Hyphen;
     }
     match encipher_under(cipher, key, block) {
@@ -67,5 +69,5 @@ fn under<K: KeyedCipher>(cipher: &mut K, key: &mut [u8], line: &[u8]) -> Reply
 fn ciphertext(block: Block) -> Reply
     ensures { reply_bytes result ≡ spelled (bytes_of block) }
 {
-    Reply::Ciphertext(hex::spell_block(block))
+    Reply::Ciphertext(hex_digits::spell_block(block))
 }

@@ -1,4 +1,6 @@
 //! Answers lines of test vectors: key, one space and plaintext come in, the ciphertext goes out, or a hyphen.
+#![tactic(auto)]
+
 use std::io;
 use std::io::{BufRead, BufReader, BufWriter, Write};
 

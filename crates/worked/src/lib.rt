@@ -1,6 +1,8 @@
 //! Worked examples: theorems about the definitions, in one table.
 //!
 //! Public: `rows`, whose contract is the table.
+#![tactic(auto)]
+
 ghost use Rattle.std.specs.Prelude.{◌≡◌};
 ghost use Rattle.worked.specs.Table.{Table};
 

@@ -5,7 +5,7 @@ use Rattle.std.proofs.lemmas.Nat.{xor_lt}
 use Rattle.cipher.specs.declared.block.Block.{Block}
 use Rattle.cipher.specs.Blocks.{Inverse, Sound}
 use Rattle.cipher.specs.Words.{plus, minus}
-use Rattle.cipher.proofs.Blocks.{same, inverse-rounds}
+use Rattle.cipher.specs.Inverses.{same, inverse-rounds}
 use Rattle.cipher.proofs.Words.{plus_lt, minus_lt, minus_plus, plus-minus}
 use Rattle.xtea.specs.Xtea.{enciphered, deciphered, left_share, right_share, cycled, uncycled, cycles, uncycles, sum_at}
 

@@ -1,6 +1,8 @@
 //! XTEA: 32 cycles under a key of sixteen bytes, one block or eight at a time.
 //!
 //! Public: `Xtea`, with `new`, and the calls of `BlockCipher` and `KeyedCipher`.
+#![tactic(auto)]
+
 ghost use Rattle.std.specs.Prelude.{◌≡◌, ◌+◌, ◌≤◌, length, replicate};
 ghost use Rattle.cipher.specs.Bytes.{word_at};
 ghost use Rattle.cipher.specs.Eights.{each_of_eight};

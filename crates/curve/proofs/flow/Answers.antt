@@ -15,8 +15,8 @@ returns-then-holds c =
     let e : to_z w32 (of_z w32 s) ≡ s = to_z-of_z w32 s c.ranges.stage in
     let below : NoneBelow ss qs s i = subst (λ x. NoneBelow ss qs x i) e c.loop-i.invariant in
     let at : HoldsAt ss s i = subst (λ x. HoldsAt ss x i) e (c.if-holds.ensures.0 refl) in
-    let v = subst (λ x. c.flow-by.result ≡ flow_between (pair ss qs (i - 1)) (pair ss qs i) x) e c.flow-by.ensures in
-    let a = answered ss qs s i (omega arith) (omega arith) (omega arith) below at c.flow-by.result v in
+    let v = subst (λ x. c.flow_by.result ≡ flow_between (pair ss qs (i - 1)) (pair ss qs i) x) e c.flow_by.ensures in
+    let a = answered ss qs s i (omega arith) (omega arith) (omega arith) below at c.flow_by.result v in
     record { first = a.first; lawful = a.lawful }
 
 pub loop-i-preserved : goal.loop-i-preserved

@@ -8,7 +8,7 @@ use Rattle.modes.proofs.cmac.chained.Goals as goal
 pub loop-at-preserved : goal.loop-at-preserved
 loop-at-preserved g c = (
   omega arith,
-  turn (g.C.BlockCipher.enc c.args.cipher.now) c.twice-k1.result c.args.text.now c.loop-at.at c.loop-at.chain _ _ _ (omega arith) c.read-block.ensures c.xored.ensures c.encipher-chain.ensures
+  turn (g.C.BlockCipher.enc c.args.cipher.now) c.twice-k1.result c.args.text.now c.loop-at.at c.loop-at.chain _ _ _ (omega arith) c.read_block.ensures c.xored.ensures c.encipher-chain.ensures
       ∙ c.loop-at.invariant.1,
 )
 
@@ -17,5 +17,5 @@ returns g c =
     let E = g.C.BlockCipher.enc c.args.cipher.now in
     let text = c.args.text.now in
     let key : c.twice-k1.result ≡ doubled (E zeros) = c.twice-k1.ensures ∙ ap doubled c.encipher.ensures in
-    end E c.twice-k1.result text c.loop-at.at c.loop-at.chain _ _ _ _ (omega arith) (take_rest text c.loop-at.at) c.keyed-last.ensures c.xored-2.ensures c.encipher-2.ensures
+    end E c.twice-k1.result text c.loop-at.at c.loop-at.chain _ _ _ _ (omega arith) (take_rest text c.loop-at.at) c.keyed_last.ensures c.xored-2.ensures c.encipher-2.ensures
     ∙ c.loop-at.invariant.1 ∙ ap (λ (k : Block). tag-from E k zeros text) key

@@ -5,15 +5,15 @@ use Rattle.cipher.specs.Bytes.{block_at}
 use Rattle.modes.proofs.Marks.{pad_is, eight}
 use Rattle.modes.proofs.cmac.padded_block.Goals as goal
 
-pub slice-bounds-read-block-end : goal.slice-bounds-read-block-end
-slice-bounds-read-block-end c = search (rules, places)
+pub slice_bounds-read_block-end : goal.slice_bounds-read_block-end
+slice_bounds-read_block-end c = search (rules, places)
 
-pub read-block-requires : goal.read-block-requires
-read-block-requires c = search (rules, places)
+pub read_block-requires : goal.read_block-requires
+read_block-requires c = search (rules, places)
 
 pub returns : goal.returns
 returns c =
     let n = length c.args.rest.now in
-    c.read-block.ensures
-    ∙ ap (λ l. block_at (set (l ++ post_of 0 (n - 0) eight) n 128) 0) c.copy-from-slice.ensures.after
+    c.read_block.ensures
+    ∙ ap (λ l. block_at (set (l ++ post_of 0 (n - 0) eight) n 128) 0) c.copy_from_slice.ensures.after
     ∙ pad_is c.args.rest.now c.requires

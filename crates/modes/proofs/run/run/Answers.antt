@@ -7,8 +7,8 @@ eights-init g c = sofar_none _ _ _
 
 pub eights-preserved : goal.eights-preserved
 eights-preserved g c =
-    sofar_eight _ _ _ _ _ _ _ c.read-eight.result c.step-eight-done.result c.eights.invariant (omega (arith, c.eights.invariant.within))
-    c.read-eight.ensures c.step-eight-done.ensures c.write-eight.ensures
+    sofar_eight _ _ _ _ _ _ _ c.read_eight.result c.step_eight-done.result c.eights.invariant (omega (arith, c.eights.invariant.within))
+    c.read_eight.ensures c.step_eight-done.ensures c.write_eight.ensures
 
 pub ones-init : goal.ones-init
 ones-init g c = λ s text h. h

@@ -11,8 +11,8 @@ loop-i-init c = ((λ k h. absurd (omega arith)), refl)
 
 pub unreachable-requires : goal.unreachable-requires
 unreachable-requires c =
-    let cs = c.args.curve-stages.now in
-    let cf = c.args.curve-flows.now in
+    let cs = c.args.curve_stages.now in
+    let cf = c.args.curve_flows.now in
     let f : SFits w32 (get_or c.args.stages.now c.loop-i.i (pos 0)) = search rules in
     let e : to_z w32 (of_z w32 (get_or c.args.stages.now c.loop-i.i (pos 0))) ≡ get_or c.args.stages.now c.loop-i.i (pos 0) = to_z-of_z w32 _ f in
     let w = within-covered cs cf c.requires.lawful c.args.stages.now c.requires.within c.loop-i.i (omega arith) in
@@ -21,8 +21,8 @@ unreachable-requires c =
 pub loop-i-preserved : goal.loop-i-preserved
 loop-i-preserved c =
     let lt : c.loop-i.i < length c.loop-i.flows = omega arith in
-    let cs = c.args.curve-stages.now in
-    let cf = c.args.curve-flows.now in
+    let cs = c.args.curve_stages.now in
+    let cf = c.args.curve_flows.now in
     let f : SFits w32 (get_or c.args.stages.now c.loop-i.i (pos 0)) = search rules in
     let e : to_z w32 (of_z w32 (get_or c.args.stages.now c.loop-i.i (pos 0))) ≡ get_or c.args.stages.now c.loop-i.i (pos 0) = to_z-of_z w32 _ f in
     let now : FlowAt (points cs cf) (get_or c.args.stages.now c.loop-i.i (pos 0)) c.in-Some.flow = subst (λ x. FlowAt (points cs cf) x c.in-Some.flow) e (first-is_flow _ _ _ c.in-Some.ensures.first) in

@@ -12,9 +12,9 @@ pub returns-in-Ok-decipher : goal.returns-in-Ok-decipher
 returns-in-Ok-decipher c =
     let same = with_items_is c.args.text c.decipher.new.buffer (search rules) in
     deciphered_as c.args.mode.now c.in-Ok.mode (chosen_enc c.args.cipher.now) c.args.start c.in-Ok.ensures
-    _ _ _ _ _ _ c.as-mut-slice.ensures.value c.in-Ok-decipher.ensures (c.as-slice.ensures.value ∙ same) c.answer.ensures
+    _ _ _ _ _ _ c.as_mut_slice.ensures.value c.in-Ok-decipher.ensures (c.as_slice.ensures.value ∙ same) c.answer.ensures
 
 pub returns : goal.returns
 returns c =
     let h = c.in-Err-decipher.ensures in
-    not_whole c.in-Ok.mode c.in-Err-decipher.refusal c.in-Ok.ensures (λ w. h.1 (rw c.as-mut-slice.ensures.value w)) refl h.0
+    not_whole c.in-Ok.mode c.in-Err-decipher.refusal c.in-Ok.ensures (λ w. h.1 (rw c.as_mut_slice.ensures.value w)) refl h.0

@@ -12,9 +12,9 @@ pub returns-in-Ok-encipher : goal.returns-in-Ok-encipher
 returns-in-Ok-encipher c =
     let same = with_items_is c.args.text c.encipher.new.buffer (search rules) in
     enciphered_as c.args.mode.now c.in-Ok.mode (chosen_enc c.args.cipher.now) c.args.start c.in-Ok.ensures
-    _ _ _ _ _ _ c.as-mut-slice.ensures.value c.in-Ok-encipher.ensures.does (c.as-slice.ensures.value ∙ same) c.answer.ensures
+    _ _ _ _ _ _ c.as_mut_slice.ensures.value c.in-Ok-encipher.ensures.does (c.as_slice.ensures.value ∙ same) c.answer.ensures
 
 pub returns : goal.returns
 returns c =
     let h = c.in-Err-encipher.ensures.does in
-    not_whole c.in-Ok.mode c.in-Err-encipher.refusal c.in-Ok.ensures (λ w. h.1 (rw c.as-mut-slice.ensures.value w)) refl h.0
+    not_whole c.in-Ok.mode c.in-Err-encipher.refusal c.in-Ok.ensures (λ w. h.1 (rw c.as_mut_slice.ensures.value w)) refl h.0

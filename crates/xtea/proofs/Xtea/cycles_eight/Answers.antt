@@ -16,7 +16,7 @@ loop-i-preserved c =
     rw add-one (
       λ x p q.
           let now = c.loop-i.invariant.0 x p q in
-          let then = c.cycle-eight-halves.ensures (each_of_eight (cycles key c.loop-i.i) x) now.0 now.1 in (
+          let then = c.cycle_eight-halves.ensures (each_of_eight (cycles key c.loop-i.i) x) now.0 now.1 in (
             then.0 ∙ ap (λ s. lefts (each_of_eight (cycled key s) (each_of_eight (cycles key c.loop-i.i) x))) c.loop-i.invariant.1,
             then.1 ∙ ap (λ s. rights (each_of_eight (cycled key s) (each_of_eight (cycles key c.loop-i.i) x))) c.loop-i.invariant.1,
           ),

@@ -3,5 +3,5 @@ use Rattle.xtea.proofs.Xtea.uncycle_eight.Goals as goal
 
 pub returns : goal.returns
 returns c = λ x p q.
-    unturn c.args.self.now.key c.args.sum _ _ _ _ _ _ x c.left-word.ensures c.right-word.ensures
-    p q c.mix-eight.ensures c.mix-eight-2.ensures
+    unturn c.args.self.now.key c.args.sum _ _ _ _ _ _ x c.left_word.ensures c.right_word.ensures
+    p q c.mix_eight.ensures c.mix_eight-2.ensures

@@ -24,7 +24,7 @@ loop-i-preserved c =
       λ x p q.
           let was = c.loop-i.invariant.0 x p q in
           let y = was.0 in
-          let then = c.uncycle-eight-halves.ensures y was.1 was.2 in (
+          let then = c.uncycle_eight-halves.ensures y was.1 was.2 in (
             each_of_eight (uncycled key (minus s 0x9E3779B9)) y,
             then.0,
             then.1,

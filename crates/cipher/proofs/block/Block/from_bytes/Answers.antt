@@ -5,6 +5,6 @@ use Rattle.cipher.proofs.block.Block.from_bytes.Goals as goal
 
 pub returns : goal.returns
 returns c = record {
-  value = c.held-by.ensures;
-  back = ap bytes_of c.held-by.ensures ∙ bytes_of-block_of c.args.bytes (search rules) (λ i. search rules);
+  value = c.held_by.ensures;
+  back = ap bytes_of c.held_by.ensures ∙ bytes_of-block_of c.args.bytes (search rules) (λ i. search rules);
 }

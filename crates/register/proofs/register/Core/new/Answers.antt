@@ -7,8 +7,8 @@ use Rattle.register.specs.Places.{held, unused}
 use Rattle.register.proofs.Fresh.{none-marked, none-long, none-level, none-once, none-held}
 use Rattle.register.proofs.register.Core.new.Goals as goal
 
-pub invariant-of-result : goal.invariant-of-result
-invariant-of-result c =
+pub invariant_of-result : goal.invariant_of-result
+invariant_of-result c =
     let e = c.empty.ensures in (
       ap length e,
       (

@@ -13,6 +13,6 @@ pub loop-n-preserved : goal.loop-n-preserved
 loop-n-preserved c =
     none_more (InForce (meaning c.args.self.now)) c.args.after c.loop-n.n c.loop-n.invariant
     (λ l f. elim c.else-n-after.branch [
-      | else-n-after-via-then-n-after+else-is-in-force w ↦ both_ways _ w.if-is-in-force.false (w.is-in-force.ensures.1 f)
+      | else-n-after-via-then-n-after+else-is-in-force w ↦ both_ways _ w.if-is_in_force.false (w.is_in_force.ensures.1 f)
       | else-n-after-via-else-n-after w ↦ (let g = w.if-n-after.false in omega arith)
     ])

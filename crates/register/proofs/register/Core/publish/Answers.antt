@@ -13,10 +13,10 @@ use Rattle.register.proofs.Laws.{few-set, level-set, placed-once, placed_law}
 use Rattle.register.proofs.Uses.{room}
 use Rattle.register.proofs.register.Core.publish.Goals as goal
 
-pub returns-in-err-place : goal.returns-in-err-place
-returns-in-err-place c =
-    let p = err_from_is_err_and c.from-residual.result c.from-residual.ensures.1 in
-    let d = publish-refused c.args.self.now c.args.number c.args.stages.now c.args.flows.now _ c.in-err-place.ensures in
+pub returns-in_err-place : goal.returns-in_err-place
+returns-in_err-place c =
+    let p = err_from_is_err_and c.from_residual.result c.from_residual.ensures.1 in
+    let d = publish-refused c.args.self.now c.args.number c.args.stages.now c.args.flows.now _ c.in_err-place.ensures in
     rw (p.1, p.2) (record {
       does = d;
       kept = refl;
@@ -26,18 +26,18 @@ returns-in-err-place c =
 
 pub occupy-requires : goal.occupy-requires
 occupy-requires c =
-    let a = c.in-ok-place.ensures in
+    let a = c.in_ok-place.ensures in
     let s = makes-size c.args.stages.now c.args.flows.now a.2 in
     record { place = a.4; same = s.0; few = s.2 }
 
-pub invariant-of-self : goal.invariant-of-self
-invariant-of-self c =
+pub invariant_of-self : goal.invariant_of-self
+invariant_of-self c =
     let r = c.args.self.now in
-    let a = c.in-ok-place.ensures in
+    let a = c.in_ok-place.ensures in
     let o = c.occupy.ensures in
     let e = o.1 in
     let size = makes-size c.args.stages.now c.args.flows.now a.2 in
-    let within : c.in-ok-place.place < length r.table.places = omega (arith, r.long, a.4) in
+    let within : c.in_ok-place.place < length r.table.places = omega (arith, r.long, a.4) in
     let drawn = drawn_so o.0 c.args.stages.now c.args.flows.now o.4 o.5 in
     let s : Sound r.withdrawn c.args.number (curve_of o.0) = rw drawn (record { number = a.0; unmarked = a.1; lawful = a.2.1 }) in
     let l : Level o.0 = ap length o.4 ∙ size.0 ∙ sym (ap length o.5) in (
@@ -69,7 +69,7 @@ invariant-of-self c =
 pub returns : goal.returns
 returns c =
     let r = c.args.self.now in
-    let a = c.in-ok-place.ensures in
+    let a = c.in_ok-place.ensures in
     let o = c.occupy.ensures in
     let ps = c.occupy.new.self.places in
     let d = publish-done r c.args.number c.args.stages.now c.args.flows.now _ o.0 ps a o.1 o.2 (drawn_so o.0 c.args.stages.now c.args.flows.now o.4 o.5) in

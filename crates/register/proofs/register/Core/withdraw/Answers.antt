@@ -10,15 +10,15 @@ use Rattle.register.proofs.Calling.{carries, withdraw-done}
 use Rattle.register.proofs.Laws.{marked_law}
 use Rattle.register.proofs.register.Core.withdraw.Goals as goal
 
-pub returns-in-err-known : goal.returns-in-err-known
-returns-in-err-known c =
-    let p = err_from_is_err_and c.from-residual.result c.from-residual.ensures.1 in
-    let k = c.in-err-known.ensures in
-    let d : Withdraw c.args.number (meaning c.args.self.now) (refused (number_of c.in-err-known.field-0.0)) (meaning c.args.self.now) = withdraw_1 k.1 (ap refused k.0) refl in
+pub returns-in_err-known : goal.returns-in_err-known
+returns-in_err-known c =
+    let p = err_from_is_err_and c.from_residual.result c.from_residual.ensures.1 in
+    let k = c.in_err-known.ensures in
+    let d : Withdraw c.args.number (meaning c.args.self.now) (refused (number_of c.in_err-known.field-0.0)) (meaning c.args.self.now) = withdraw_1 k.1 (ap refused k.0) refl in
     rw (p.1, p.2) (record { does = d; kept = refl; freed = tt; promises = carries _ (withdraw c.args.number) _ [] _ (λ E1 E2. (d, refl)) })
 
-pub invariant-of-self : goal.invariant-of-self
-invariant-of-self c =
+pub invariant_of-self : goal.invariant_of-self
+invariant_of-self c =
     let r = c.args.self.now in
     let e = c.evict.ensures in
     let m = c.mark.ensures in (
@@ -51,7 +51,7 @@ pub returns : goal.returns
 returns c =
     let r = c.args.self.now in
     let e = c.evict.ensures in
-    let d = withdraw-done r c.args.number c.evict.new.self.places c.mark.new.marks c.mark.ensures c.in-ok-known.ensures e.others in
+    let d = withdraw-done r c.args.number c.evict.new.self.places c.mark.new.marks c.mark.ensures c.in_ok-known.ensures e.others in
     record {
       does = d;
       kept = tt;

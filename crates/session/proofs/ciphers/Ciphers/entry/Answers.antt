@@ -18,5 +18,5 @@ returns c =
       omega (arith, long, c.args.self.now.entries.ok.0),
       λ d.
           let same = get_or_default s c.args.i d (entry_of x) (omega (arith, long, c.args.self.now.entries.ok.0)) ∙ sym at in
-          (ap (λ e. e.0) same ∙ sym c.as-slice.ensures.value, ap (λ e. e.1.kind) same ∙ sym c.kind.ensures),
+          (ap (λ e. e.0) same ∙ sym c.as_slice.ensures.value, ap (λ e. e.1.kind) same ∙ sym c.kind.ensures),
     )

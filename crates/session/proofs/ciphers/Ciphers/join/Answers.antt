@@ -8,8 +8,8 @@ use Rattle.session.proofs.ciphers.Ciphers.join.Goals as goal
 pub returns : goal.returns
 returns c =
     let before = vec_items c.args.self.now.entries in
-    let joined : Entry = record { name = c.in-ok-name.name; cipher = c.args.cipher } in
+    let joined : Entry = record { name = c.in_ok-name.name; cipher = c.args.cipher } in
     let items : vec_items c.push.new.self ≡ before ++ joined ∷ []
-    = pushed (joined ∷ []) refl c.in-ok-push.was c.push.ensures.items in
+    = pushed (joined ∷ []) refl c.in_ok-push.was c.push.ensures.items in
     ap (map entry_of) items ∙ map_push entry_of before joined
-    ∙ ap (λ n. standing c.args.self.now ++ (n, meaning c.args.cipher) ∷ []) c.in-ok-name.ensures.items
+    ∙ ap (λ n. standing c.args.self.now ++ (n, meaning c.args.cipher) ∷ []) c.in_ok-name.ensures.items

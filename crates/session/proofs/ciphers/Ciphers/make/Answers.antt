@@ -6,10 +6,10 @@ pub returns-in-Some : goal.returns-in-Some
 returns-in-Some c = taken _ (sym c.in-Some.ensures) refl (search rules)
 
 pub returns-in-Err : goal.returns-in-Err
-returns-in-Err c = unmade _ (sym c.in-default.ensures) c.in-Err.ensures refl (search rules)
+returns-in-Err c = unmade _ (sym c.in_default.ensures) c.in-Err.ensures refl (search rules)
 
 pub returns-in-Ok-join : goal.returns-in-Ok-join
-returns-in-Ok-join c = makes _ (sym c.in-default.ensures) c.in-Ok.ensures refl c.in-Ok-join.ensures
+returns-in-Ok-join c = makes _ (sym c.in_default.ensures) c.in-Ok.ensures refl c.in-Ok-join.ensures
 
 pub returns-in-Err-join : goal.returns-in-Err-join
-returns-in-Err-join c = no_memory _ (sym c.in-default.ensures) c.in-Ok.ensures refl c.in-Err-join.ensures
+returns-in-Err-join c = no_memory _ (sym c.in_default.ensures) c.in-Ok.ensures refl c.in-Err-join.ensures

@@ -7,12 +7,12 @@ use Rattle.session.proofs.ciphers.Ciphers.named.Goals as goal
 pub index-requires : goal.index-requires
 index-requires c =
     let entries = c.args.self.now.entries in
-    omega (arith, c.in-ok-i.ensures.within, length-map (vec_items entries) entry_of, entries.ok.0)
+    omega (arith, c.in_ok-i.ensures.within, length-map (vec_items entries) entry_of, entries.ok.0)
 
 pub returns : goal.returns
 returns c =
     let entries = c.args.self.now.entries in
     let long : length (standing c.args.self.now) ≡ length (vec_items entries) = length-map (vec_items entries) entry_of in
     let x = c.index.result.now in
-    ap (λ e. Some e.1) (entry_at (vec_items entries) c.in-ok-i.i x (omega (arith, long, c.in-ok-i.ensures.within)) c.index.ensures)
-    ∙ sym (c.in-ok-i.ensures.found (entry_of x))
+    ap (λ e. Some e.1) (entry_at (vec_items entries) c.in_ok-i.i x (omega (arith, long, c.in_ok-i.ensures.within)) c.index.ensures)
+    ∙ sym (c.in_ok-i.ensures.found (entry_of x))

@@ -10,7 +10,7 @@ returns-in-Cipher c = does_at c.args.call _ _ _ _ _ c.in-Cipher.is refl c.make.e
 pub returns-in-Load : goal.returns-in-Load
 returns-in-Load c =
     does_at c.args.call _ _ _ _ _ c.in-Load.is refl
-    (subst (λ k. Loads c.in-Load.name.now k (standing c.args.self.now) c.load.result (standing c.load.new.self)) c.as-slice.ensures.value c.load.ensures)
+    (subst (λ k. Loads c.in-Load.name.now k (standing c.args.self.now) c.load.result (standing c.load.new.self)) c.as_slice.ensures.value c.load.ensures)
 
 pub returns-in-Encipher : goal.returns-in-Encipher
 returns-in-Encipher c = does_at c.args.call _ _ _ (standing c.args.self.now) _ c.in-Encipher.is (search rules) c.encipher.ensures
@@ -24,4 +24,4 @@ returns-in-Mode c = does_at c.args.call _ _ _ (standing c.args.self.now) _ c.in-
 pub returns-in-Tag : goal.returns-in-Tag
 returns-in-Tag c =
     does_at c.args.call _ _ _ (standing c.args.self.now) _ c.in-Tag.is (search rules)
-    (subst (λ z. Tags c.in-Tag.name.now z (standing c.args.self.now) c.tag.result (standing c.args.self.now)) c.as-slice-in-Tag.ensures.value c.tag.ensures)
+    (subst (λ z. Tags c.in-Tag.name.now z (standing c.args.self.now) c.tag.result (standing c.args.self.now)) c.as_slice-in-Tag.ensures.value c.tag.ensures)

@@ -14,7 +14,7 @@ loop-i-preserved c =
     let long : length (standing c.args.self.now) ≡ length (vec_items entries) = length-map (vec_items entries) entry_of in
     left_more c.args.name.now (standing c.args.self.now) c.loop-i.i (entry_of c.index.result.now)
     (omega (arith, long, entries.ok.0)) (entry_at (vec_items entries) c.loop-i.i c.index.result.now (omega (arith, entries.ok.0)) c.index.ensures)
-    (named_alike _ _ _ _ c.eq.ensures c.as-slice.ensures.value ∙ c.if-eq.false) c.loop-i.invariant
+    (named_alike _ _ _ _ c.eq.ensures c.as_slice.ensures.value ∙ c.if-eq.false) c.loop-i.invariant
 
 pub returns-then-eq : goal.returns-then-eq
 returns-then-eq c =
@@ -22,7 +22,7 @@ returns-then-eq c =
     let long : length (standing c.args.self.now) ≡ length (vec_items entries) = length-map (vec_items entries) entry_of in
     left_here c.args.name.now (standing c.args.self.now) c.loop-i.i (entry_of c.index.result.now)
     (omega (arith, long, entries.ok.0)) (entry_at (vec_items entries) c.loop-i.i c.index.result.now (omega (arith, entries.ok.0)) c.index.ensures)
-    (named_alike _ _ _ _ c.eq.ensures c.as-slice.ensures.value ∙ c.if-eq.true) c.loop-i.invariant
+    (named_alike _ _ _ _ c.eq.ensures c.as_slice.ensures.value ∙ c.if-eq.true) c.loop-i.invariant
 
 pub returns : goal.returns
 returns c =

@@ -1,19 +1,19 @@
 use Rattle.std.proofs.Common.{◌+◌, ◌*◌, ◌≤◌, length, sym, refl, ap, ◌∙◌, subst, arith, rules}
 use Rattle.std.proofs.lemmas.List.{take_all}
 use Rattle.cipher.specs.Bytes.{Bytes}
-use Rattle.hex.specs.Digits.{spelled}
-use Rattle.hex.proofs.Spelling.{read_more, bytes-more, unspelt_length, unspelt_other}
-use Rattle.hex.proofs.read.Goals as goal
+use Rattle.hex_digits.specs.Digits.{spelled}
+use Rattle.hex_digits.proofs.Spelling.{read_more, bytes-more, unspelt_length, unspelt_other}
+use Rattle.hex_digits.proofs.read.Goals as goal
 
 pub returns-then-digits-bytes : goal.returns-then-digits-bytes
 returns-then-digits-bytes c = (unspelt_length _ c.args.digits.now (λ e. omega (arith, e)), search rules)
 
-pub returns-then-not-all-digits : goal.returns-then-not-all-digits
-returns-then-not-all-digits c = (unspelt_other _ c.args.digits.now c.if-not-all-digits.ensures, search rules)
+pub returns-then-not-all_digits : goal.returns-then-not-all_digits
+returns-then-not-all_digits c = (unspelt_other _ c.args.digits.now c.if-not-all_digits.ensures, search rules)
 
 pub loop-i-preserved : goal.loop-i-preserved
 loop-i-preserved c =
-    let all = c.if-not-all-digits.ensures in
+    let all = c.if-not-all_digits.ensures in
     let high = all (2 * c.loop-i.i) (omega arith) in
     let low = all (2 * c.loop-i.i + 1) (omega arith) in (
       read_more c.args.digits.now c.loop-i.bytes c.loop-i.i _ all (omega arith) (omega arith) (search rules) c.loop-i.invariant.0,

@@ -1,10 +1,12 @@
 //! Bytes in capital hexadecimal digits, two to a byte, the higher digit first.
 //!
 //! Public: `read`, `read_block`, `spell`, `spell_block`.
+#![tactic(auto)]
+
 ghost use Rattle.std.specs.Prelude.{◌≡◌, ◌+◌, ◌*◌, ◌<◌, true, length, IfOk, MatchBool, MatchOption};
 ghost use Rattle.cipher.specs.Bytes.{Bytes, bytes_of};
-ghost use Rattle.hex.specs.Digits.{digit_of, spelled, Unspelt, NoBlock};
-ghost use Rattle.hex.specs.Worth.{worth_of, AllDigits, SomeOther};
+ghost use Rattle.hex_digits.specs.Digits.{digit_of, spelled, Unspelt, NoBlock};
+ghost use Rattle.hex_digits.specs.Worth.{worth_of, AllDigits, SomeOther};
 
 use cipher::block::Block;
 use std::alloc::{AllocError, Global};

@@ -5,8 +5,8 @@ use Rattle.std.proofs.lemmas.Bool.Decides.{nat_tests}
 use Rattle.std.proofs.lemmas.List.{take_more, take_more_set, length-set}
 use Rattle.cipher.specs.declared.block.Block.{Block}
 use Rattle.cipher.specs.Bytes.{Bytes, bytes_of}
-use Rattle.hex.specs.Digits.{digit_of, spelled, Unspelt}
-use Rattle.hex.specs.Worth.{worth_of, AllDigits, SomeOther}
+use Rattle.hex_digits.specs.Digits.{digit_of, spelled, Unspelt}
+use Rattle.hex_digits.specs.Worth.{worth_of, AllDigits, SomeOther}
 
 pub worth_digit : (d : ℕ) → d < 16 → worth_of (digit_of d) < 16
 worth_digit d h = grind (arith, nat_tests)
