@@ -5,10 +5,10 @@ use Rattle.script.specs.Words.{words}
 use Rattle.session.specs.Lines.Carried.{called, no_call}
 use Rattle.session.proofs.ciphers.Ciphers.heed.Goals as goal
 
-pub returns-in_ok-said : goal.returns-in_ok-said
-returns-in_ok-said c =
-    let call = c.in_ok-said.field-0 in
-    let says = subst (λ (o : Option Call). Reads (words c.args.line.now) (Ok o)) c.in_ok-said.was c.in-Ok.ensures in
+pub returns-in_ok-said-in-Ok : goal.returns-in_ok-said-in-Ok
+returns-in_ok-said-in-Ok c =
+    let call = c.in_ok-said-in-Ok.field-0 in
+    let says = subst (λ (o : Option Call). Reads (words c.args.line.now) (Ok o)) c.in_ok-said-in-Ok.was c.in-Ok.ensures in
     called (verb_of call) (args_of call) says.0 says.1 c.perform.ensures
 
 pub returns-in-Err : goal.returns-in-Err
