@@ -6,7 +6,7 @@ use Rattle.rules.specs.Registers.{new_state, put, in_force, withdrawn}
 use Rattle.rules.specs.Bundles.{entries_up_to, bundle_of, padded}
 use Rattle.rules.specs.Parcels.{parcel_of}
 use Rattle.worked.specs.Season.{curve_k}
-use Rattle.worked.specs.Table.{five_and_seven}
+use Rattle.worked.specs.RulesTable.{five_and_seven}
 
 pub new-bundle : (station : ℕ) → bundle_of (new_state station) ≡ 0 ∷ 0 ∷ 0 ∷ 0 ∷ []
 unfolding entries_up_to

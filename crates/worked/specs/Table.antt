@@ -1,17 +1,10 @@
 -- Worked examples, each a row of one table.
-use Rattle.std.specs.Prelude.{◌≡◌, ℕ, List, [], ◌∷◌, length, replicate, pos, negsuc}
+use Rattle.std.specs.Prelude.{◌≡◌, ℕ, List, [], ◌∷◌, replicate}
 use Rattle.cipher.specs.declared.block.Block.{Block}
 use Rattle.blowfish.specs.Blowfish as blowfish
 use Rattle.blowfish.specs.Blowfish.{combined}
 use Rattle.blowfish.specs.Schedule.{initial, key_word_of, scheduled}
-use Rattle.modes.specs.declared.mode.Mode.{Mode}
 use Rattle.modes.specs.Cmac.{doubled}
-use Rattle.curve.specs.Curves.{LawfulCurve, FlowAt}
-use Rattle.rules.specs.Registers.{new_state, put, in_force, withdrawn}
-use Rattle.rules.specs.Bundles.{bundle_of, padded}
-use Rattle.rules.specs.Parcels.{parcel_of}
-use Rattle.rules.specs.Calls.{Does, convert, refused}
-use Rattle.worked.specs.Season.{curve_k, upper_published, SeasonIsARun}
 use Rattle.xtea.specs.Xtea as xtea
 use Rattle.xtea.specs.Xtea.{cycled, key_words}
 
@@ -26,16 +19,6 @@ five_bytes = 1 ∷ 2 ∷ 3 ∷ 4 ∷ 5 ∷ []
 abbrev pub sixteen_bytes : List ℕ
 sixteen_bytes = 0 ∷ 1 ∷ 2 ∷ 3 ∷ 4 ∷ 5 ∷ 6 ∷ 7 ∷ 8 ∷ 9 ∷ 10 ∷ 11 ∷ 12 ∷ 13 ∷ 14 ∷ 15 ∷ []
 
--- the bundle of curve K as 5 and of 7 withdrawn: counts, entries, three points
-abbrev pub five_and_seven : List ℕ
-five_and_seven =
-    0 ∷ 2 ∷ 0 ∷ 3
-    ∷ 0 ∷ 5 ∷ 1 ∷ 3
-    ∷ 0 ∷ 7 ∷ 2 ∷ 0
-    ∷ 0xFF ∷ 0xFF ∷ 0xFF ∷ 0x38 ∷ 0 ∷ 0 ∷ 0 ∷ 0
-    ∷ 0 ∷ 0 ∷ 0 ∷ 0 ∷ 0 ∷ 0 ∷ 0x05 ∷ 0xDC
-    ∷ 0 ∷ 0 ∷ 0x01 ∷ 0x90 ∷ 0 ∷ 0 ∷ 0x25 ∷ 0x1C ∷ []
-
 pub record Table : Type 0 where
   -- a key of five bytes goes round and round
   pub key_words_lem : (key_word_of five_bytes 0 ≡ 0x01020304) × (key_word_of five_bytes 1 ≡ 0x05010203) × (key_word_of five_bytes 2 ≡ 0x04050102)
@@ -49,23 +32,3 @@ pub record Table : Type 0 where
   pub blowfish_vector : blowfish.enciphered (scheduled initial (replicate 8 0)) (block 0 0) ≡ block 0x4EF99745 0x6198DD78
   -- 8000000000000000 doubled
   pub top_bit_doubled : doubled (block 0x80000000 0) ≡ block 0 0x1B
-  -- curve K, (−200, 0), (0, 1500), (400, 9500), and its flow at some stages
-  pub k_is_lawful : LawfulCurve curve_k
-  pub k_at_100 : FlowAt curve_k (pos 100) 3500
-  pub k_at_minus_50 : FlowAt curve_k (negsuc 49) 1125
-  pub k_at_minus_1 : FlowAt curve_k (negsuc 0) 1492
-  pub k_at_400 : FlowAt curve_k (pos 400) 9500
-  -- above the last point and below the first, convert says 7
-  pub k_at_401 : (E1 E2 : Block → Block) → Does E1 E2 upper_published (convert 5 (pos 401 ∷ []) (0 ∷ [])) (refused 7) (0 ∷ []) upper_published
-  pub k_at_minus_201 : (E1 E2 : Block → Block) → Does E1 E2 upper_published (convert 5 (negsuc 200 ∷ []) (0 ∷ [])) (refused 7) (0 ∷ []) upper_published
-  -- a new register's bundle, padded, and the length of its parcel
-  pub new-bundle : (station : ℕ) → bundle_of (new_state station) ≡ 0 ∷ 0 ∷ 0 ∷ 0 ∷ []
-  pub new-padded : (station : ℕ) → padded (bundle_of (new_state station)) ≡ 0 ∷ 0 ∷ 0 ∷ 0 ∷ 4 ∷ 4 ∷ 4 ∷ 4 ∷ []
-  pub new-parcel : (E1 E2 : Block → Block) (m : Mode) (station : ℕ) → length (parcel_of E1 E2 m (new_state station)) ≡ 24
-  -- with only 7 withdrawn
-  pub seven_bundle : (station : ℕ) → bundle_of (put 7 withdrawn (new_state station)) ≡ 0 ∷ 1 ∷ 0 ∷ 0 ∷ 0 ∷ 7 ∷ 2 ∷ 0 ∷ []
-  pub seven_parcel : (E1 E2 : Block → Block) (m : Mode) (station : ℕ) → length (parcel_of E1 E2 m (put 7 withdrawn (new_state station))) ≡ 32
-  -- with curve K in force as 5, and 7 withdrawn
-  pub five_and_seven_lem : (station : ℕ) → bundle_of (put 7 withdrawn (put 5 (in_force curve_k) (new_state station))) ≡ five_and_seven
-  -- a season at three stations
-  pub season : SeasonIsARun

@@ -1,21 +1,36 @@
-//! Worked examples: theorems about the definitions, in one table.
+//! Worked examples: theorems about the definitions, in two tables.
 //!
-//! Public: `rows`, whose contract is the table.
+//! Public: `rows`, whose contract is the table of the ciphers, and `rules_rows`, whose contract is the table of curves, bundles and runs.
 #![tactic(auto)]
 
 ghost use Rattle.std.specs.Prelude.{◌≡◌};
+ghost use Rattle.worked.specs.RulesTable.{RulesTable};
 ghost use Rattle.worked.specs.Table.{Table};
 
 /// The rows of the table hold; it answers how many there are.
 pub fn rows() -> u8
     ensures table { Table }
-    ensures count { result ≡ 20 }
+    ensures count { result ≡ 6 }
 {
     count()
 }
 
 fn count() -> u8
-    ensures { result ≡ 20 }
+    ensures { result ≡ 6 }
 {
-    20
+    6
+}
+
+/// The rows of the table of curves, bundles and runs hold; it answers how many there are.
+pub fn rules_rows() -> u8
+    ensures table { RulesTable }
+    ensures count { result ≡ 14 }
+{
+    rules_count()
+}
+
+fn rules_count() -> u8
+    ensures { result ≡ 14 }
+{
+    14
 }

@@ -9,28 +9,17 @@ use Rattle.register.proofs.register.Core.new.Goals as goal
 
 pub invariant_of-result : goal.invariant_of-result
 invariant_of-result c =
-    let e = c.empty.ensures in (
-      ap length e,
-      (
-        refl,
-        (
-          omega arith,
-          (
-            rw e (none-long 32 unused zero-le),
-            (
-              rw e (none-level 32 unused refl),
-              (
-                rw e (none-once 32),
-                (
-                  (λ n h. absurd (both_ways _ (none-marked 1025 n) h)),
-                  ((λ n k h. let z = ap (λ ps. held ps n) e ∙ none-held 32 n in absurd (let y : ◌≡◌ {A = ℕ} 0 1 = cc (h, z) in omega arith)), tt),
-                ),
-              ),
-            ),
-          ),
-        ),
-      ),
-    )
+    let e = c.empty.ensures in
+    record {
+      long = ap length e;
+      wide = refl;
+      counted = omega arith;
+      few = rw e (none-long 32 unused zero-le);
+      level = rw e (none-level 32 unused refl);
+      apart = rw e (none-once 32);
+      marks = (λ n h. absurd (both_ways _ (none-marked 1025 n) h));
+      lawful = (λ n k h. let z = ap (λ ps. held ps n) e ∙ none-held 32 n in absurd (let y : ◌≡◌ {A = ℕ} 0 1 = cc (h, z) in omega arith));
+    }
 
 pub returns : goal.returns
 returns c =

@@ -40,31 +40,17 @@ invariant_of-self c =
     let within : c.in_ok-place.place < length r.table.places = omega (arith, r.long, a.4) in
     let drawn = drawn_so o.0 c.args.stages.now c.args.flows.now o.4 o.5 in
     let s : Sound r.withdrawn c.args.number (curve_of o.0) = rw drawn (record { number = a.0; unmarked = a.1; lawful = a.2.1 }) in
-    let l : Level o.0 = ap length o.4 ∙ size.0 ∙ sym (ap length o.5) in (
-      ap length e ∙ simp length-set r.long,
-      (
-        r.wide,
-        (
-          r.counted,
-          (
-            rw e (few-set r.table.places _ o.0 within r.few (omega (arith, o.3, size))),
-            (
-              rw e (level-set r.table.places _ o.0 within r.level l),
-              (
-                rw e (placed-once r.table.places _ _ o.0 a.5 (nowhere r c.args.number a.3) o.2 r.apart),
-                (
-                  r.marks,
-                  (
-                    rw e (placed_law r.table.places _ _ o.0 a.5 (nowhere r c.args.number a.3) o.2 within r.withdrawn s r.lawful),
-                    tt,
-                  ),
-                ),
-              ),
-            ),
-          ),
-        ),
-      ),
-    )
+    let l : Level o.0 = ap length o.4 ∙ size.0 ∙ sym (ap length o.5) in
+    record {
+      long = ap length e ∙ simp length-set r.long;
+      wide = r.wide;
+      counted = r.counted;
+      few = rw e (few-set r.table.places _ o.0 within r.few (omega (arith, o.3, size)));
+      level = rw e (level-set r.table.places _ o.0 within r.level l);
+      apart = rw e (placed-once r.table.places _ _ o.0 a.5 (nowhere r c.args.number a.3) o.2 r.apart);
+      marks = r.marks;
+      lawful = rw e (placed_law r.table.places _ _ o.0 a.5 (nowhere r c.args.number a.3) o.2 within r.withdrawn s r.lawful);
+    }
 
 pub returns : goal.returns
 returns c =

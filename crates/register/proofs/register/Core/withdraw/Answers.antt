@@ -21,31 +21,17 @@ pub invariant_of-self : goal.invariant_of-self
 invariant_of-self c =
     let r = c.args.self.now in
     let e = c.evict.ensures in
-    let m = c.mark.ensures in (
-      e.long ∙ r.long,
-      (
-        ap length m ∙ simp length-set r.wide,
-        (
-          r.counted,
-          (
-            (λ j l. omega (arith, e.counts j, r.few j l)),
-            (
-              (λ j l. e.levels j (r.level j l)),
-              (
-                (λ m. e.onces m (r.apart m)),
-                (
-                  (λ k h. ⊎_elim (λ q. omega (arith, q)) (λ ne. r.marks k (sym (get_or-set_other r.withdrawn c.args.number k true false ne) ∙ ap (λ x. get_or x k false) (sym m) ∙ h)) (cases_eq k c.args.number)),
-                  (
-                    rw m (marked_law c.evict.new.self.places r.withdrawn c.args.number e.gone (λ n k h ne. r.lawful n k (sym (e.others n ne) ∙ h))),
-                    tt,
-                  ),
-                ),
-              ),
-            ),
-          ),
-        ),
-      ),
-    )
+    let m = c.mark.ensures in
+    record {
+      long = e.long ∙ r.long;
+      wide = ap length m ∙ simp length-set r.wide;
+      counted = r.counted;
+      few = (λ j l. omega (arith, e.counts j, r.few j l));
+      level = (λ j l. e.levels j (r.level j l));
+      apart = (λ m. e.onces m (r.apart m));
+      marks = (λ k h. ⊎_elim (λ q. omega (arith, q)) (λ ne. r.marks k (sym (get_or-set_other r.withdrawn c.args.number k true false ne) ∙ ap (λ x. get_or x k false) (sym m) ∙ h)) (cases_eq k c.args.number));
+      lawful = rw m (marked_law c.evict.new.self.places r.withdrawn c.args.number e.gone (λ n k h ne. r.lawful n k (sym (e.others n ne) ∙ h)));
+    }
 
 pub returns : goal.returns
 returns c =
