@@ -1,8 +1,8 @@
 -- Looking for the first pair of neighbours that holds a stage.
-use Rattle.std.proofs.Common.{◌≡◌, ℕ, zero, suc, ◌+◌, ◌-◌, ◌<◌, ◌≤◌, min, List, length, get_or, ℤ, pos, ◌≤ℤ◌, Some, None, sym, refl, ap, ◌∙◌, subst, ap₂, subst₂, arith}
+use Rattle.std.proofs.Common.{◌≡◌, ℕ, ◌+◌, ◌-◌, ◌<◌, ◌≤◌, min, List, length, ℤ, ◌≤ℤ◌, Some, None, sym, ap, ◌∙◌, subst, ap₂, arith}
 use native.Mathlib.Decide.{ℕ_discrete}
-use Rattle.curve.specs.Answers.{HoldsAt, FirstFlow, Found, Lawfully}
-use Rattle.curve.specs.Curves.{Curve, point, pair, points, LawfulCurve, flow_between, Between, Covered}
+use Rattle.curve.specs.Answers.{HoldsAt, Found, Lawfully}
+use Rattle.curve.specs.Curves.{Curve, point, pair, points, flow_between, Between}
 use Rattle.curve.proofs.Neighbours.{any_pair, flow-there, flow-covered}
 use Rattle.curve.proofs.Points.{point_at, points-enough, length-points, length-points_flows}
 

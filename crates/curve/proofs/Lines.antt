@@ -1,5 +1,5 @@
 -- The line between two neighbouring points.
-use Rattle.std.proofs.Common.{◌≡◌, ℕ, ◌+◌, ◌-◌, ◌*◌, ◌/◌, ◌<◌, ◌≤◌, ℤ, ◌≤ℤ◌, ◌<ℤ◌, refl, mul_comm, mul-le-mul_left, mul-zero, mul-div_cancel, arith}
+use Rattle.std.proofs.Common.{◌≡◌, ℕ, ◌-◌, ◌*◌, ◌/◌, ◌<◌, ◌≤◌, ℤ, ◌≤ℤ◌, ◌<ℤ◌, mul_comm, mul-le-mul_left, mul-zero, mul-div_cancel, arith}
 use native.Mathlib.Nat.{div-le_of_le-mul, zero-div}
 use Rattle.std.proofs.lemmas.Int.{ints}
 use Rattle.curve.specs.Curves.{Point, above, flow_between}

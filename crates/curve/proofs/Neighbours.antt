@@ -1,8 +1,8 @@
 -- Stages and neighbouring points of a lawful curve.
-use Rattle.std.proofs.Common.{◌≡◌, ℕ, zero, suc, ◌+◌, ◌-◌, ◌<◌, ◌≤◌, ◌⊎◌, length, ℤ, ◌≤ℤ◌, ◌<ℤ◌, sym, refl, ap, ◌∙◌, subst, inl, inr, ⊎_elim, add-one, arith}
-use native.Mathlib.Decide.{dec_le, dec_lt, ℕ_discrete}
+use Rattle.std.proofs.Common.{◌≡◌, ℕ, zero, suc, ◌+◌, ◌-◌, ◌<◌, ◌≤◌, length, ℤ, ◌≤ℤ◌, sym, refl, ap, ◌∙◌, subst, add-one, arith}
+use native.Mathlib.Decide.{dec_lt, ℕ_discrete}
 use Rattle.std.proofs.lemmas.Int.{ints, by_lt_z}
-use Rattle.curve.specs.Curves.{Curve, Point, point, LawfulCurve, flow_between, Between, FlowAt, Covered}
+use Rattle.curve.specs.Curves.{Curve, point, LawfulCurve, flow_between, Between, FlowAt, Covered}
 use Rattle.curve.specs.Laws.{AnyPair, FlowsWithin, FlowsBetween}
 use Rattle.curve.proofs.Lines.{at_start, at_end, between_flows}
 

@@ -1,8 +1,8 @@
 -- The points of two lists, place by place.
-use Rattle.std.proofs.Common.{◌≡◌, ℕ, zero, suc, ◌+◌, ◌-◌, ◌<◌, ◌≤◌, List, [], ◌∷◌, length, get_or, ℤ, pos, sym, refl, ap, ◌∙◌, subst, subst₂, arith}
+use Rattle.std.proofs.Common.{◌≡◌, ℕ, zero, suc, ◌+◌, ◌-◌, ◌<◌, ◌≤◌, List, [], ◌∷◌, length, get_or, ℤ, pos, sym, refl, subst, subst₂, arith}
 use native.Mathlib.Decide.{ℕ_discrete, dec_lt}
 use Rattle.curve.specs.Answers.{InRange, Step}
-use Rattle.curve.specs.Curves.{Point, Curve, point, pair, points, LawfulCurve, Makes}
+use Rattle.curve.specs.Curves.{Point, point, pair, points, LawfulCurve, Makes}
 
 pub length-points : (ss : List ℤ) (qs : List ℕ) → length (points ss qs) ≤ length ss
 length-points [] qs = omega arith

@@ -1,7 +1,7 @@
 -- The modes by name and code.
 --   called m     the name of a mode, and its code
 --   Unnamed n    no mode has the name n
-use Rattle.std.specs.Prelude.{◌≡◌, ℕ, List, codes, ◌≢◌}
+use Rattle.std.specs.Prelude.{ℕ, List, codes, ◌≢◌}
 use Rattle.modes.specs.declared.mode.Mode.{Mode}
 use Rattle.modes.specs.declared.mode.Mode.TheVariants.{Ecb, Cbc, Cfb, Ofb}
 

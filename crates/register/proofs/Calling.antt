@@ -1,23 +1,23 @@
 -- What the calls come to, by number.
-use Rattle.std.proofs.Common.{◌≡◌, ℕ, ◌<◌, ◌≤◌, Bool, true, false, cond, eqb, ◌⊎◌, List, [], length, get_or, take, set, ℤ, Some, None, Ok, Err, Option, Result, sym, refl, ap, ◌∙◌, subst, ap₂, inl, inr, ⊎_elim, arith}
+use Rattle.std.proofs.Common.{◌≡◌, ℕ, ◌<◌, ◌≤◌, Bool, true, false, cond, eqb, List, length, get_or, take, set, ℤ, Some, None, Ok, Err, Option, Result, sym, refl, ap, ◌∙◌, ap₂, arith}
 use mathlib.Core.Path.{fun_ext}
 use native.Mathlib.Decide.{ℕ_discrete}
 use Rattle.std.proofs.lemmas.List.{get_or-set_same, get_or-set_other}
-use Rattle.std.proofs.lemmas.Bool.{eq-eqb, ne_eqb, both_ways}
+use Rattle.std.proofs.lemmas.Bool.{eq-eqb, ne_eqb}
 use Rattle.refusal.specs.declared.Refusal.{Refusal}
 use Rattle.refusal.specs.declared.Refusal.TheVariants.{NumberOutOfRange, Withdrawn, NoLawfulCurve, AlreadyInForce, NoFreePlace, NotInForce, StageOffCurve, ParcelLength, Header, Tag, TooShort, Padding, NoLawfulBundle, OtherPoints, SerialUsedUp, KeyLength, TextLength, Mode}
 use Rattle.refusal.specs.Refusals.{number_of}
 use Rattle.cipher.specs.declared.block.Block.{Block}
 use Rattle.curve.specs.Curves.{Curve, points, Makes}
-use Rattle.rules.specs.Registers.{Number, Standing, State, put, in_force, withdrawn}
-use Rattle.rules.specs.Calls.{Call, Answer, AllCovered, Flows, Publish, Withdraw, Convert, Does, refused, accepted, publish_1, publish_2, publish_3, publish_4, publish_5, published, marked, convert_1, convert_2, convert_6, convert_11, convert_7, converted}
+use Rattle.rules.specs.Registers.{Number, State, put, in_force, withdrawn}
+use Rattle.rules.specs.Calls.{Call, Answer, Publish, Withdraw, Convert, Does, refused, accepted, publish_1, publish_2, publish_3, publish_4, publish_5, published, marked, convert_1, convert_2, convert_6, convert_11, convert_7, converted}
 use Rattle.rules.proofs.Extends.{every_call}
 use Rattle.register.specs.declared.place.Place.{Place}
 use Rattle.register.specs.declared.register.Core.{Core}
-use Rattle.register.specs.Causes.{PublishCause, Publishable, ConvertCause, Convertible}
+use Rattle.register.specs.Causes.{PublishCause, Publishable, ConvertCause}
 use Rattle.register.specs.Filling.{Filled}
 use Rattle.register.specs.Meaning.{standing_of, standing_at, meaning, answer_of, Occupied, Carries}
-use Rattle.register.specs.Places.{bears, is_free_place, curve_of, held, Nowhere, blank, once}
+use Rattle.register.specs.Places.{bears, curve_of, held, Nowhere, blank}
 use Rattle.register.specs.declared.place.PlaceState.TheVariants.{InForce}
 use Rattle.register.proofs.Filling.{within-covered, covered-within}
 use Rattle.register.proofs.Held.{nowhere-held}

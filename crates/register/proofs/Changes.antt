@@ -1,10 +1,9 @@
 -- One place of the table changes.
-use Rattle.std.proofs.Common.{◌≡◌, ℕ, zero, suc, ◌+◌, ◌<◌, ◌≤◌, Bool, true, false, cond, not, List, [], ◌∷◌, length, get_or, set, is_some, Some, None, Option, sym, refl, ap, ◌∙◌, inl, inr, ⊎_elim, arith}
+use Rattle.std.proofs.Common.{◌≡◌, ℕ, zero, suc, ◌<◌, Bool, true, false, cond, not, List, [], ◌∷◌, length, get_or, set, is_some, Some, None, Option, refl, ⊎_elim, arith}
 use Rattle.std.proofs.lemmas.Bool.{cases_Bool}
-use Rattle.std.proofs.lemmas.Bool.Decides.{nat_tests}
 use Rattle.register.specs.declared.place.Place.{Place}
 use Rattle.curve.specs.Curves.{Curve}
-use Rattle.register.specs.Places.{held, bears, is_free_place, curve_of, blank, once}
+use Rattle.register.specs.Places.{held, bears, curve_of, blank, once}
 
 -- a look-up that finds nothing in a list finds nothing in its parts
 none-head : (b : Bool) (c : Curve) (o : Option Curve) → cond b (Some c) o ≡ None → b ≡ false

@@ -1,7 +1,7 @@
 -- Converting stage by stage.
-use Rattle.std.proofs.Common.{◌≡◌, ℕ, zero, suc, ◌+◌, ◌-◌, ◌<◌, ◌≤◌, List, length, get_or, drop, ℤ, pos, ◌≤ℤ◌, sym, refl, ap, ◌∙◌, subst, arith}
+use Rattle.std.proofs.Common.{◌≡◌, ℕ, ◌-◌, List, length, get_or, ℤ, pos, ◌≤ℤ◌, sym, ap, ◌∙◌, subst, arith}
 use Rattle.curve.specs.Answers.{FirstFlow}
-use Rattle.curve.specs.Curves.{Curve, point, points, Makes, FlowAt, Covered}
+use Rattle.curve.specs.Curves.{Curve, point, points, Makes, FlowAt}
 use Rattle.curve.proofs.Points.{point_at, enough, makes-size}
 use Rattle.rules.specs.Calls.{AllCovered}
 use Rattle.register.specs.Filling.{Within}

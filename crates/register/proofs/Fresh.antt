@@ -1,5 +1,5 @@
 -- Lists of one value.
-use Rattle.std.proofs.Common.{◌≡◌, ℕ, zero, suc, ◌<◌, ◌≤◌, Bool, true, false, List, [], get_or, replicate, None, refl, zero-le, arith}
+use Rattle.std.proofs.Common.{◌≡◌, ℕ, zero, suc, ◌<◌, ◌≤◌, true, false, get_or, replicate, None, refl, zero-le, arith}
 use Rattle.register.specs.declared.place.Place.{Place}
 use Rattle.register.specs.Places.{held, once, blank, unused, Level}
 

@@ -1,10 +1,10 @@
 -- Marks and curves, and what stands.
-use Rattle.std.proofs.Common.{◌≡◌, ℕ, suc, ◌+◌, ◌<◌, ◌≤◌, Bool, true, false, length, get_or, Some, None, Option, sym, refl, ap, ◌∙◌, ap₂, arith}
+use Rattle.std.proofs.Common.{◌≡◌, ℕ, ◌+◌, ◌<◌, Bool, true, false, get_or, Some, None, Option, sym, refl, ap, ◌∙◌, ap₂, arith}
 use native.Mathlib.Decide.{ℕ_discrete}
 use Rattle.std.proofs.lemmas.List.{get_or_past}
 use Rattle.std.proofs.lemmas.Bool.{both_ways}
 use Rattle.curve.specs.Curves.{Curve}
-use Rattle.rules.specs.Registers.{Standing, in_force, withdrawn}
+use Rattle.rules.specs.Registers.{in_force, withdrawn}
 use Rattle.register.specs.declared.register.Core.{Core}
 use Rattle.register.specs.Looking.{InForce, Withdrawn}
 use Rattle.register.specs.Meaning.{standing_of, meaning}

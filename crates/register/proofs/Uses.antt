@@ -1,5 +1,5 @@
 -- The curves in force are as many as the places that are not free; and a register's meaning is lawful.
-use Rattle.std.proofs.Common.{◌≡◌, ℕ, zero, suc, ◌+◌, ◌<◌, ◌≤◌, Bool, true, false, cond, not, eqb, ◌⊎◌, List, [], ◌∷◌, length, get_or, take, is_some, Some, None, Option, sym, refl, ap, ◌∙◌, subst, inl, inr, ⊎_elim, arith}
+use Rattle.std.proofs.Common.{◌≡◌, ℕ, zero, suc, ◌+◌, ◌<◌, ◌≤◌, Bool, true, false, eqb, ◌⊎◌, List, [], ◌∷◌, length, get_or, take, is_some, Some, None, Option, refl, ap, ◌∙◌, subst, inl, inr, ⊎_elim, arith}
 use mathlib.Core.Logic.{∥∥₁_elim}
 use mathlib.Core.HLevel.{⊥_prop}
 use native.Mathlib.Decide.{dec_le}
@@ -7,15 +7,15 @@ use Rattle.std.proofs.lemmas.List.{get_or_past}
 use Rattle.std.proofs.lemmas.Bool.{cases_Bool, eqb-true, eq-eqb, both_ways}
 use Rattle.curve.specs.Curves.{Curve, LawfulCurve, Makes}
 use Rattle.curve.proofs.Deciding.{decide_lawful}
-use Rattle.rules.specs.Registers.{Number, Standing, State, one_if, tally, is_curve, places_in_use, Lawful, in_force, withdrawn}
+use Rattle.rules.specs.Registers.{Number, one_if, tally, is_curve, places_in_use, Lawful, in_force}
 use Rattle.rules.proofs.Counting.{tally_split}
 use Rattle.rules.proofs.Tallies.{tally-none}
 use Rattle.register.specs.declared.place.Place.{Place}
 use Rattle.register.specs.declared.place.PlaceState.{PlaceState}
 use Rattle.register.specs.declared.place.PlaceState.TheVariants.{Free, InForce}
 use Rattle.register.specs.declared.register.Core.{Core}
-use Rattle.register.specs.Meaning.{standing_of, standing_at, meaning}
-use Rattle.register.specs.Places.{bears, is_free_place, curve_of, held, NoneFree, blank, once}
+use Rattle.register.specs.Meaning.{standing_of, meaning}
+use Rattle.register.specs.Places.{bears, is_free_place, held, NoneFree, blank, once}
 use Rattle.register.specs.Soundness.{Sound}
 use Rattle.register.proofs.Laws.{held_at}
 use Rattle.register.proofs.Changes.{once_tail, once-rest, once-none}

@@ -1,13 +1,13 @@
 -- What an accepted call tells.
-use Rattle.std.proofs.Common.{◌≡◌, ℕ, ◌+◌, ◌<◌, ◌≤◌, ◌⊎◌, List, [], ◌∷◌, ◌++◌, length, take, drop, ℤ, Some, None, Option, sym, refl, ap, ◌∙◌, subst, inl, inr, le_refl, arith, take_all}
+use Rattle.std.proofs.Common.{◌≡◌, ℕ, ◌+◌, ◌⊎◌, List, ◌++◌, length, take, ℤ, Some, ap, ◌∙◌, subst, inl, inr, le_refl, arith, take_all}
 use lib.Seq.{take-append-le}
 use Rattle.cipher.specs.declared.block.Block.{Block}
 use Rattle.modes.specs.declared.mode.Mode.{Mode}
 use Rattle.modes.specs.declared.mode.Mode.TheVariants.{Ecb}
 use Rattle.curve.specs.Curves.{Curve}
-use Rattle.rules.specs.Registers.{Number, Standing, State, put, in_force, withdrawn}
+use Rattle.rules.specs.Registers.{Number, State, in_force, withdrawn}
 use Rattle.rules.specs.Parcels.{start_of, parcel_of, Parcel}
-use Rattle.rules.specs.Calls.{Call, Answer, Withdraw, Flows, Convert, raised, Seal, TakeIn, Open, Does, refused, accepted, sealed, opened, open_parcel, take_in, withdraw_1, marked, convert_1, convert_2, convert_6, convert_11, convert_7, converted, seal_18, seal_15, seal_11, written, take_in_11, take_in_12, take_in_13, take_in_14, take_in_5, taken_in_from, open_8, open_9, open_10, opening}
+use Rattle.rules.specs.Calls.{Call, Answer, Withdraw, Flows, Convert, Seal, TakeIn, Open, Does, refused, accepted, sealed, opened, open_parcel, take_in, withdraw_1, marked, convert_1, convert_2, convert_6, convert_11, convert_7, converted, seal_18, seal_15, seal_11, written, take_in_11, take_in_12, take_in_13, take_in_14, take_in_5, taken_in_from, open_8, open_9, open_10, opening}
 use Rattle.rules.proofs.Moves.{Merging, put-here}
 
 -- an answer is one of two that differ: no case is left

@@ -1,10 +1,10 @@
 -- The entries of a register tell what stands there, and a lawful register's list is lawful.
-use Rattle.std.proofs.Common.{◌≡◌, ℕ, zero, suc, ◌+◌, ◌<◌, ◌≤◌, cond, eqb, ◌⊎◌, List, [], ◌∷◌, ◌++◌, Some, None, Option, sym, refl, ap, ◌∙◌, subst, ap₂, inl, inr, arith}
+use Rattle.std.proofs.Common.{◌≡◌, ℕ, zero, suc, ◌+◌, ◌<◌, ◌≤◌, ◌⊎◌, List, [], ◌∷◌, ◌++◌, Some, None, Option, sym, refl, ◌∙◌, subst, ap₂, inl, inr, arith}
 use native.Mathlib.Decide.{ℕ_discrete, dec_le}
 use Rattle.std.proofs.lemmas.Bool.{eq-eqb, ne_eqb}
 use Rattle.curve.specs.Curves.{Curve, LawfulCurve}
-use Rattle.rules.specs.Registers.{Number, Standing, State, Lawful, one_if, tally, count, is_curve, in_force, withdrawn}
-use Rattle.rules.specs.Bundles.{Entry, LawfulStanding, RisesAbove, curves_in, curves, LawfulList, told, entry_of, entries_up_to, entries_of}
+use Rattle.rules.specs.Registers.{Number, Standing, State, Lawful, one_if, tally, is_curve, in_force, withdrawn}
+use Rattle.rules.specs.Bundles.{Entry, LawfulStanding, RisesAbove, curves, LawfulList, told, entry_of, entries_up_to, entries_of}
 use Rattle.rules.specs.Laws.{CopyOf}
 
 -- ---- looking a number up

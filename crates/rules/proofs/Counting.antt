@@ -1,18 +1,17 @@
 -- Room after the withdrawals, what a refused call leaves, and what a serial counts.
-use Rattle.std.proofs.Common.{◌≡◌, ℕ, zero, suc, ◌+◌, ◌-◌, ◌<◌, ◌≤◌, Bool, true, false, cond, eqb, List, [], ◌∷◌, length, ℤ, Some, None, Option, sym, refl, ap, ◌∙◌, subst, ap₂, arith}
+use Rattle.std.proofs.Common.{◌≡◌, ℕ, zero, suc, ◌+◌, ◌<◌, Bool, false, cond, eqb, List, [], ◌∷◌, length, ℤ, Some, None, Option, sym, refl, ap, ◌∙◌, subst, arith}
 use native.Mathlib.Decide.{ℕ_discrete}
 use Rattle.std.proofs.lemmas.Bool.{eq-eqb, ne_eqb}
-use Rattle.std.specs.List.{slice_get}
 use Rattle.cipher.specs.declared.block.Block.{Block}
 use Rattle.modes.specs.declared.mode.Mode.{Mode}
 use Rattle.rules.specs.Registers.{Standing, State, one_if, tally, is_curve, in_force, withdrawn}
 use Rattle.rules.specs.Bundles.{told}
-use Rattle.rules.specs.Calls.{Call, Answer, Convert, Seal, joined, new_curve, staying, merged, Does, publish, withdraw, convert, seal, open_parcel, take_in, refused, accepted, sealed, opened, convert_1, convert_2, convert_6, convert_11, convert_7, converted, seal_18, seal_15, seal_11, written}
-use Rattle.rules.specs.Runs.{Event, At, Run}
+use Rattle.rules.specs.Calls.{Call, Answer, Convert, Seal, joined, new_curve, staying, Does, publish, withdraw, convert, seal, open_parcel, take_in, refused, accepted, convert_1, convert_2, convert_6, convert_11, convert_7, converted, seal_18, seal_15, seal_11, written}
+use Rattle.rules.specs.Runs.{Event, At}
 use Rattle.rules.specs.Laws.{RoomExactly, left_by, RefusedKeeps, is_sealed, seals_before, SerialCounts}
 use Rattle.rules.proofs.Lawfulness.{was-there}
 use Rattle.rules.proofs.Moves.{Moves, moves, stays, places, marks, raises, merges}
-use Rattle.rules.proofs.Tallies.{true_false, tally_grows}
+use Rattle.rules.proofs.Tallies.{tally_grows}
 
 -- ---- room
 

@@ -1,11 +1,11 @@
 -- A list of entries as bytes: how long it is, that it is bytes, and that no other lawful list has the same.
-use Rattle.std.proofs.Common.{◌≡◌, ℕ, zero, suc, ◌+◌, ◌-◌, ◌*◌, ◌/◌, ◌%◌, ◌^◌, ◌<◌, ◌≤◌, List, [], ◌∷◌, ◌++◌, length, ℤ, pos, negsuc, ◌≤ℤ◌, sym, refl, ap, ◌∙◌, ap₂, arith, length-append}
+use Rattle.std.proofs.Common.{◌≡◌, ℕ, suc, ◌+◌, ◌*◌, ◌/◌, ◌%◌, ◌^◌, ◌<◌, ◌≤◌, List, [], ◌∷◌, ◌++◌, length, ℤ, pos, negsuc, ◌≤ℤ◌, sym, refl, ap, ◌∙◌, ap₂, arith, length-append}
 use Rattle.std.proofs.lemmas.Int.{ints}
 use Rattle.cipher.specs.Bytes.{Bytes, word, word_bytes}
 use Rattle.cipher.proofs.Bytes.{word-word_bytes}
 use Rattle.curve.specs.Curves.{Point, Curve, point, LawfulCurve}
 use Rattle.rules.specs.Registers.{Standing, in_force, withdrawn}
-use Rattle.rules.specs.Bundles.{two_bytes, stage_word, Entry, kind, points_in, head, heads, curve_bytes, body, bodies, total_points, encoding, LawfulStanding, RisesAbove, curves_in, curves, LawfulList}
+use Rattle.rules.specs.Bundles.{stage_word, Entry, kind, points_in, heads, curve_bytes, body, bodies, total_points, encoding, LawfulStanding, RisesAbove, curves_in, curves, LawfulList}
 use Rattle.rules.specs.Laws.{OneList}
 
 pub two-one : (a b : ℕ) → a < 65536 → b < 65536 → a / 256 % 256 ≡ b / 256 % 256 → a % 256 ≡ b % 256 → a ≡ b

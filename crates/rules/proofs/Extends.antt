@@ -1,12 +1,12 @@
 -- A call carries every run on.
-use Rattle.std.proofs.Common.{◌≡◌, ℕ, zero, suc, ◌+◌, ◌<◌, ◌≤◌, ◌⊎◌, List, [], ◌∷◌, ◌++◌, length, Some, sym, refl, ap, ◌∙◌, subst, subst₂, inl, inr, arith}
+use Rattle.std.proofs.Common.{◌≡◌, ℕ, zero, suc, ◌<◌, ◌≤◌, ◌⊎◌, List, [], ◌∷◌, ◌++◌, length, Some, sym, refl, ap, ◌∙◌, subst, subst₂, inl, inr, arith}
 use native.Mathlib.Decide.{ℕ_discrete, dec_lt}
 use Rattle.std.specs.List.{slice_get}
 use Rattle.cipher.specs.declared.block.Block.{Block}
 use Rattle.cipher.specs.Blocks.{Inverse}
 use Rattle.rules.specs.Registers.{State}
 use Rattle.rules.specs.Calls.{Call, Answer, Does}
-use Rattle.rules.specs.Runs.{Event, At, Fresh, Step, Run, Promises, GoesOn, WithdrawnStaysWithdrawn, StartingBlocksDiffer, FlowsComeFromAPublish}
+use Rattle.rules.specs.Runs.{Event, At, Fresh, Step, Run, Promises, GoesOn}
 use Rattle.rules.specs.Laws.{EveryRun, EveryCall}
 use Rattle.rules.proofs.Promises.{promises}
 

@@ -1,10 +1,10 @@
 -- A call leaves a lawful register lawful.
-use Rattle.std.proofs.Common.{◌≡◌, ℕ, ◌+◌, ◌<◌, ◌≤◌, Bool, true, false, ◌⊎◌, List, Some, None, Option, sym, refl, ap, ◌∙◌, subst, inl, inr, arith}
+use Rattle.std.proofs.Common.{◌≡◌, ℕ, ◌+◌, ◌≤◌, true, false, ◌⊎◌, List, Some, None, Option, sym, refl, ap, ◌∙◌, subst, inl, inr, arith}
 use Rattle.cipher.specs.declared.block.Block.{Block}
 use Rattle.curve.specs.Curves.{Curve, points, LawfulCurve}
 use Rattle.rules.specs.Registers.{Number, Standing, State, is_curve, places_in_use, Lawful, new_state, put, in_force, withdrawn}
 use Rattle.rules.specs.Bundles.{Entry, LawfulStanding, LawfulList, told}
-use Rattle.rules.specs.Calls.{Call, Answer, raised, joined, new_curve, staying, meeting, merged, TooMany, Does}
+use Rattle.rules.specs.Calls.{Call, Answer, joined, new_curve, staying, merged, TooMany}
 use Rattle.rules.specs.Laws.{StaysLawful}
 use Rattle.rules.proofs.Copies.{told-outside, told-lawful}
 use Rattle.rules.proofs.Moves.{Moves, moves, put_cases, joined-from, stays, places, marks, raises, merges}

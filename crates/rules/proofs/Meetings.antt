@@ -1,14 +1,10 @@
 -- What a register seals is taken in by another: the standings are joined number by number.
-use Rattle.std.proofs.Common.{◌≡◌, ℕ, ◌+◌, ◌-◌, ◌<◌, ◌≤◌, Bool, List, length, Option, sym, refl, ap, ◌∙◌, arith, length-append}
+use Rattle.std.proofs.Common.{◌≡◌, ℕ, ◌+◌, Bool, List, length, Option, sym, refl, ap, ◌∙◌, arith, length-append}
 use mathlib.Core.Path.{fun_ext}
-use Rattle.cipher.specs.declared.block.Block.{Block}
-use Rattle.cipher.specs.Blocks.{Inverse}
-use Rattle.modes.specs.declared.mode.Mode.{Mode}
-use Rattle.modes.specs.declared.mode.Mode.TheVariants.{Ecb}
 use Rattle.rules.specs.Registers.{Standing, State, count, Lawful}
 use Rattle.rules.specs.Bundles.{Bundle, told, entries_of, bundle_of}
-use Rattle.rules.specs.Parcels.{parcel_of, header, Parcel}
-use Rattle.rules.specs.Calls.{joined, newly_marked, new_curve, passed_over, staying, meeting, merged, Clash, TooMany, TakeIn, opened, taken_in_from, opening}
+use Rattle.rules.specs.Parcels.{Parcel}
+use Rattle.rules.specs.Calls.{joined, newly_marked, new_curve, passed_over, staying, meeting, merged, Clash, TooMany, opened, taken_in_from, opening}
 use Rattle.rules.specs.Laws.{meets, joined_with, Agree, SealedIsTakenIn}
 use Rattle.rules.proofs.Copies.{entries-lawful, told_entries}
 use Rattle.rules.proofs.Parcels.{sealed-is_read}

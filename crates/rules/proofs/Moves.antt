@@ -1,14 +1,13 @@
 -- What a call can do to a register, by kinds, and what each kind keeps.
-use Rattle.std.proofs.Common.{◌≡◌, ℕ, ◌+◌, ◌<◌, ◌≤◌, true, false, cond, ◌⊎◌, List, [], ◌∷◌, ◌++◌, length, drop, ℤ, Some, None, Option, sym, refl, ap, ◌∙◌, subst, inl, inr, arith}
+use Rattle.std.proofs.Common.{◌≡◌, ℕ, ◌<◌, ◌≤◌, false, ◌⊎◌, List, ℤ, Some, None, Option, sym, refl, ap, ◌∙◌, subst, inl, inr, arith}
 use native.Mathlib.Decide.{ℕ_discrete}
 use Rattle.std.proofs.lemmas.Bool.{eq-eqb, ne_eqb}
 use Rattle.cipher.specs.declared.block.Block.{Block}
 use Rattle.modes.specs.declared.mode.Mode.{Mode}
-use Rattle.modes.specs.declared.mode.Mode.TheVariants.{Ecb}
 use Rattle.curve.specs.Curves.{Curve, Makes, points}
 use Rattle.rules.specs.Registers.{Number, Standing, State, places_in_use, put, in_force, withdrawn}
 use Rattle.rules.specs.Bundles.{Bundle, told}
-use Rattle.rules.specs.Parcels.{start_of, parcel_of, Parcel, Reads}
+use Rattle.rules.specs.Parcels.{Parcel, Reads}
 use Rattle.rules.specs.Laws.{is_sealed}
 use Rattle.rules.specs.Calls.{Call, Answer, Publish, Withdraw, Convert, raised, Seal, joined, merged, TooMany, TakeIn, Open, Does, publish, withdraw, convert, seal, open_parcel, take_in, accepted, sealed, opened, publish_1, publish_2, publish_3, publish_4, publish_5, published, withdraw_1, marked, convert_1, convert_2, convert_6, convert_11, convert_7, converted, seal_18, seal_15, seal_11, written, take_in_11, take_in_12, take_in_13, take_in_14, take_in_5, taken_in_from, open_8, open_9, open_10, opening}
 

@@ -1,5 +1,5 @@
 -- Padding: how long a padded text is, that it is bytes, and that a text is padded in one way.
-use Rattle.std.proofs.Common.{◌≡◌, ℕ, zero, suc, ◌+◌, ◌-◌, ◌%◌, ◌<◌, ◌≤◌, List, [], ◌∷◌, ◌++◌, length, replicate, sym, refl, ap, ◌∙◌, arith, length-append}
+use Rattle.std.proofs.Common.{◌≡◌, ℕ, zero, suc, ◌+◌, ◌%◌, ◌<◌, ◌≤◌, List, [], ◌∷◌, ◌++◌, length, replicate, sym, refl, ap, ◌∙◌, arith, length-append}
 use lib.ListN.{length-replicate}
 use Rattle.cipher.specs.Bytes.{Bytes}
 use Rattle.rules.specs.Bundles.{encoding, padding, padded, PadsTo}

@@ -1,5 +1,5 @@
 -- Parcels: what is sealed is read, and a parcel says one thing.
-use Rattle.std.proofs.Common.{◌≡◌, ℕ, ◌+◌, ◌-◌, ◌%◌, ◌^◌, ◌<◌, ◌≤◌, cond, eqb, List, [], ◌∷◌, ◌++◌, length, Option, sym, refl, ap, ◌∙◌, subst, ap₂, arith, length-append}
+use Rattle.std.proofs.Common.{◌≡◌, ℕ, ◌+◌, ◌<◌, ◌≤◌, cond, eqb, List, ◌++◌, length, sym, refl, ap, ◌∙◌, subst, arith, length-append}
 use mathlib.Core.Path.{transport}
 use Rattle.cipher.specs.declared.block.Block.{Block}
 use Rattle.cipher.specs.Blocks.{Sound, Inverse}
@@ -10,9 +10,9 @@ use Rattle.modes.specs.Cmac.{tag_of}
 use Rattle.modes.specs.Names.{called}
 use Rattle.modes.specs.Texts.{Whole, OneText}
 use Rattle.modes.proofs.Back.{length-enciphered, one-before}
-use Rattle.rules.specs.Registers.{Standing, State, Lawful}
-use Rattle.rules.specs.Bundles.{Entry, encoding, Bundle, told, entries_of, bundle_of, padded, PadsTo}
-use Rattle.rules.specs.Parcels.{header, start_of, body_of, front_of, parcel_of, Sized, Parcel, Tagged, Text, Reads}
+use Rattle.rules.specs.Registers.{State, Lawful}
+use Rattle.rules.specs.Bundles.{Bundle, told, entries_of, bundle_of, padded, PadsTo}
+use Rattle.rules.specs.Parcels.{header, start_of, body_of, front_of, parcel_of, Parcel, Text, Reads}
 use Rattle.rules.specs.Laws.{SealedReads, SealedIsRead}
 use Rattle.rules.proofs.Encoding.{two-one, word-one, append-apart, one_list, encoding-length, encoding-most, encoding-bytes}
 use Rattle.rules.proofs.Copies.{entries-lawful, told_entries}

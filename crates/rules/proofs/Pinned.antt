@@ -1,7 +1,6 @@
 -- The relations pin everything: one state and one set of arguments have one answer, one content of what was lent, and
 -- one state after. Each call is read as a chain of questions, and each question leaves one outcome.
-use Rattle.std.proofs.Common.{◌≡◌, ℕ, zero, suc, ◌+◌, ◌-◌, ◌<◌, ◌≤◌, ◌⊎◌, List, [], ◌∷◌, ◌++◌, length, get_or, drop, replicate, ℤ, pos, Some, None, Option, sym, refl, ap, ◌∙◌, subst, inl, inr, arith}
-use mathlib.Core.Path.{transport}
+use Rattle.std.proofs.Common.{◌≡◌, ℕ, zero, suc, ◌+◌, ◌<◌, ◌≤◌, List, [], ◌∷◌, ◌++◌, length, get_or, drop, replicate, ℤ, pos, Some, None, Option, sym, refl, ap, ◌∙◌, subst, arith}
 use Rattle.cipher.specs.declared.block.Block.{Block}
 use Rattle.cipher.specs.Bytes.{bytes_of}
 use Rattle.modes.specs.declared.mode.Mode.{Mode}
@@ -12,12 +11,12 @@ use Rattle.curve.specs.Curves.{Curve, Makes, points, LawfulCurve}
 use Rattle.curve.proofs.Neighbours.{flow-one}
 use Rattle.rules.specs.Registers.{Number, Standing, State, Lawful, places_in_use, put, in_force, withdrawn}
 use Rattle.rules.specs.Bundles.{Entry, encoding, LawfulList, Bundle, PadsTo}
-use Rattle.rules.specs.Parcels.{header, start_of, parcel_of, Sized, Parcel, Tagged, Text, Reads}
-use Rattle.rules.specs.Calls.{Call, Answer, Publish, Withdraw, AllCovered, Flows, Convert, raised, Seal, newly_marked, new_curve, passed_over, meeting, merged, Clash, TooMany, TakeIn, Open, TakesIn, Does, refused, accepted, sealed, opened, publish, withdraw, convert, seal, open_parcel, take_in, publish_1, publish_2, publish_3, publish_4, publish_5, published, withdraw_1, marked, convert_1, convert_2, convert_6, convert_11, convert_7, converted, seal_18, seal_15, seal_11, written, take_in_11, take_in_12, take_in_13, take_in_14, take_in_5, taken_in_from, open_8, open_9, open_10, opening}
+use Rattle.rules.specs.Parcels.{header, start_of, parcel_of, Sized, Parcel, Reads}
+use Rattle.rules.specs.Calls.{Answer, Publish, Withdraw, AllCovered, Flows, Convert, raised, Seal, newly_marked, new_curve, passed_over, meeting, merged, Clash, TooMany, TakeIn, Open, TakesIn, refused, accepted, sealed, opened, publish, withdraw, convert, seal, open_parcel, take_in, publish_1, publish_2, publish_3, publish_4, publish_5, published, withdraw_1, marked, convert_1, convert_2, convert_6, convert_11, convert_7, converted, seal_18, seal_15, seal_11, written, take_in_11, take_in_12, take_in_13, take_in_14, take_in_5, taken_in_from, open_8, open_9, open_10, opening}
 use Rattle.rules.specs.Laws.{Pinned}
-use Rattle.rules.proofs.Encoding.{append-apart, one_list}
+use Rattle.rules.proofs.Encoding.{one_list}
 use Rattle.rules.proofs.Padding.{pads_one}
-use Rattle.rules.proofs.Parcels.{Alike, parcel-one, text-one}
+use Rattle.rules.proofs.Parcels.{parcel-one}
 
 -- ---- outcomes, and questions that leave one
 

@@ -1,15 +1,14 @@
 -- The three promises, of one run.
-use Rattle.std.proofs.Common.{◌≡◌, ℕ, zero, suc, ◌+◌, ◌^◌, ◌<◌, ◌≤◌, List, [], ◌∷◌, ◌++◌, take, ℤ, Some, None, Option, sym, refl, ap, ◌∙◌, subst, le_refl, arith}
+use Rattle.std.proofs.Common.{◌≡◌, ℕ, zero, suc, ◌+◌, ◌<◌, ◌≤◌, List, [], ◌∷◌, ℤ, Some, None, sym, refl, ap, ◌∙◌, subst, le_refl, arith}
 use native.Mathlib.Decide.{ℕ_discrete, dec_le, dec_lt}
 use Rattle.std.specs.List.{slice_get}
 use Rattle.cipher.specs.declared.block.Block.{Block}
 use Rattle.cipher.specs.Blocks.{Sound, Inverse}
-use Rattle.modes.specs.declared.mode.Mode.{Mode}
 use Rattle.curve.specs.Curves.{Curve}
-use Rattle.rules.specs.Registers.{Number, Standing, State, Lawful, in_force, withdrawn}
+use Rattle.rules.specs.Registers.{Number, State, Lawful, in_force, withdrawn}
 use Rattle.rules.specs.Bundles.{told}
-use Rattle.rules.specs.Calls.{Call, Answer, Convert, Flows, Does, convert, refused, accepted}
-use Rattle.rules.specs.Runs.{Event, At, Run, AcceptedSeal, AcceptedOpen, SealedBefore, Knows, WithdrawnStaysWithdrawn, StartingBlocksDiffer, AllFromSeals, PublishedBefore, ConvertSays, FlowsComeFromAPublish, Promises, by_withdraw, by_open}
+use Rattle.rules.specs.Calls.{Call, Convert, Does, convert}
+use Rattle.rules.specs.Runs.{Event, At, Run, AcceptedSeal, AcceptedOpen, SealedBefore, Knows, WithdrawnStaysWithdrawn, StartingBlocksDiffer, AllFromSeals, PublishedBefore, FlowsComeFromAPublish, Promises, by_withdraw, by_open}
 use Rattle.rules.proofs.Accepted.{withdraw-marks, opened-merges, Sealing, sealing, convert-marked, convert-says_2, convert-flows}
 use Rattle.rules.proofs.Lawfulness.{lawful-new, lawful-moved}
 use Rattle.rules.proofs.Moves.{Merging, Moves, moves, joined-marked, station_kept, serial_grows, marks_kept, MarkFrom, mark_from, CurveFrom, curve-from, mark_was, mark_set, mark_read, curve_was, curve_set, curve_read}

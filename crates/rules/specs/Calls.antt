@@ -3,7 +3,7 @@
 --   Call, Answer       what is called, and what it answers
 --   Publish, Withdraw, Convert, Seal, Open, TakeIn   the rule of each call
 --   Does E1 E2 s q a lent t   in the state s the call q answers a, leaves `lent` in what was lent, and the state t
-use Rattle.std.specs.Prelude.{◌≡◌, ℕ, ◌+◌, ◌-◌, ◌<◌, ◌≤◌, Bool, true, false, List, [], ◌∷◌, ◌++◌, length, drop, replicate, ℤ, pos, Some, None, Option, ◌≢◌, slice_index, slice_index_or}
+use Rattle.std.specs.Prelude.{◌≡◌, ℕ, ◌+◌, ◌-◌, ◌<◌, ◌≤◌, Bool, true, false, List, [], ◌++◌, length, drop, replicate, ℤ, pos, Some, None, Option, ◌≢◌, slice_index, slice_index_or}
 use Rattle.cipher.specs.declared.block.Block.{Block}
 use Rattle.modes.specs.declared.mode.Mode.{Mode}
 use Rattle.modes.specs.declared.mode.Mode.TheVariants.{Ecb}

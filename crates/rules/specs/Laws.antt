@@ -22,7 +22,7 @@ use Rattle.rules.specs.Registers.{Standing, State, one_if, count, places_in_use,
 use Rattle.rules.specs.Bundles.{Entry, encoding, LawfulList, told, entries_of, bundle_of, padded, PadsTo}
 use Rattle.rules.specs.Parcels.{parcel_of, Sized, Parcel, Tagged, Reads}
 use Rattle.rules.specs.Calls.{Call, Answer, joined, newly_marked, new_curve, passed_over, staying, merged, TooMany, Does, publish, withdraw, convert, seal, open_parcel, take_in, refused, accepted, sealed, opened}
-use Rattle.rules.specs.Runs.{Event, Run, WithdrawnStaysWithdrawn, StartingBlocksDiffer, FlowsComeFromAPublish, CarriesOn}
+use Rattle.rules.specs.Runs.{Event, Run, CarriesOn}
 
 abbrev pub OneList : Type 0
 OneList = (xs ys : List Entry) → LawfulList xs → LawfulList ys → encoding xs ≡ encoding ys → xs ≡ ys

@@ -7,7 +7,7 @@
 --   Tagged E2 p                the tag is that of header and body
 --   Text E1 p text             text is the one text that enciphers to the body
 --   Reads E1 p xs              that text is xs and its padding
-use Rattle.std.specs.Prelude.{◌≡◌, ℕ, ◌+◌, ◌%◌, ◌≤◌, List, [], ◌∷◌, ◌++◌, length}
+use Rattle.std.specs.Prelude.{◌≡◌, ℕ, ◌+◌, ◌%◌, ◌≤◌, List, ◌∷◌, ◌++◌, length}
 use Rattle.cipher.specs.declared.block.Block.{Block}
 use Rattle.cipher.specs.Bytes.{word_bytes, bytes_of}
 use Rattle.modes.specs.declared.mode.Mode.{Mode}

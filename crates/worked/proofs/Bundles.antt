@@ -1,5 +1,5 @@
 -- Bundles and parcels of a new register, and of one with only 7 withdrawn.
-use Rattle.std.proofs.Common.{◌≡◌, ℕ, List, [], ◌∷◌, length, refl}
+use Rattle.std.proofs.Common.{◌≡◌, ℕ, [], ◌∷◌, length, refl}
 use Rattle.cipher.specs.declared.block.Block.{Block}
 use Rattle.modes.specs.declared.mode.Mode.{Mode}
 use Rattle.rules.specs.Registers.{new_state, put, in_force, withdrawn}

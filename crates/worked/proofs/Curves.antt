@@ -1,9 +1,8 @@
 -- Curve K: that it is lawful, its flows, and what lies off it.
-use Rattle.std.proofs.Common.{◌≡◌, ℕ, zero, suc, ◌+◌, ◌<◌, ◌≤◌, List, [], ◌∷◌, length, ℤ, pos, negsuc, ◌≤ℤ◌, ◌<ℤ◌, refl, arith}
-use native.Mathlib.Numerals.{unary_clauses}
+use Rattle.std.proofs.Common.{ℕ, zero, suc, ◌+◌, ◌<◌, ◌≤◌, [], ◌∷◌, pos, negsuc, ◌≤ℤ◌, ◌<ℤ◌, refl, arith}
 use Rattle.std.proofs.lemmas.Int.{ints}
 use Rattle.cipher.specs.declared.block.Block.{Block}
-use Rattle.curve.specs.Curves.{Curve, point, LawfulCurve, above, FlowAt, Covered}
+use Rattle.curve.specs.Curves.{point, LawfulCurve, above, FlowAt}
 use Rattle.rules.specs.Calls.{AllCovered, Does, convert, refused, convert_7}
 use Rattle.worked.specs.Season.{curve_k, upper_published}
 

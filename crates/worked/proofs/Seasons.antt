@@ -1,5 +1,5 @@
 -- The season is a run of three registers, and at its end all three know of the withdrawal.
-use Rattle.std.proofs.Common.{◌≡◌, ℕ, zero, suc, ◌+◌, ◌-◌, ◌<◌, ◌≤◌, true, false, eqb, List, [], ◌∷◌, ◌++◌, length, get_or, take, drop, ℤ, pos, Some, None, Option, sym, refl, ap, ◌∙◌, subst, inl, inr, le_refl, arith, length-append, take_all}
+use Rattle.std.proofs.Common.{◌≡◌, ℕ, zero, suc, ◌+◌, ◌-◌, ◌<◌, ◌≤◌, false, List, [], ◌∷◌, ◌++◌, length, get_or, take, drop, pos, Some, None, Option, sym, refl, ap, ◌∙◌, inl, le_refl, arith, length-append, take_all}
 use native.Mathlib.Decide.{ℕ_discrete}
 use lib.Seq.{take-append-le}
 use Rattle.std.proofs.lemmas.Int.{ints}
@@ -12,8 +12,8 @@ use Rattle.curve.specs.Curves.{Curve, FlowAt}
 use Rattle.rules.specs.Registers.{Number, Standing, State, tally, Lawful, new_state, in_force, withdrawn}
 use Rattle.rules.specs.Bundles.{entries_up_to}
 use Rattle.rules.specs.Parcels.{start_of, parcel_of}
-use Rattle.rules.specs.Calls.{Call, Answer, AllCovered, Flows, raised, newly_marked, new_curve, passed_over, staying, Does, publish, withdraw, convert, seal, open_parcel, refused, accepted, sealed, opened, published, publish_2, marked, converted, convert_2, written}
-use Rattle.rules.specs.Runs.{Event, At, Run, Step, GoesOn, AcceptedSeal, AcceptedOpen, SealedBefore, Knows, by_withdraw, by_open}
+use Rattle.rules.specs.Calls.{Call, Answer, AllCovered, raised, newly_marked, new_curve, passed_over, staying, Does, publish, withdraw, convert, seal, open_parcel, refused, accepted, sealed, opened, published, publish_2, marked, converted, convert_2, written}
+use Rattle.rules.specs.Runs.{Event, At, Run, AcceptedOpen, SealedBefore, Knows, by_withdraw, by_open}
 use Rattle.rules.specs.Laws.{meets, joined_with, Agree}
 use Rattle.rules.proofs.Extends.{every_call}
 use Rattle.rules.proofs.Lawfulness.{lawful-new, stays-lawful}

@@ -11,7 +11,7 @@ use Rattle.modes.specs.declared.mode.Mode.TheVariants.{Cbc, Cfb, Ofb}
 use Rattle.curve.specs.Curves.{Curve, points}
 use Rattle.rules.specs.Registers.{State, new_state, put, in_force, withdrawn}
 use Rattle.rules.specs.Parcels.{start_of, parcel_of}
-use Rattle.rules.specs.Calls.{Call, Answer, raised, publish, withdraw, convert, seal, open_parcel, take_in, refused, accepted, sealed, opened}
+use Rattle.rules.specs.Calls.{Call, Answer, raised, publish, withdraw, convert, seal, open_parcel, refused, accepted, sealed, opened}
 use Rattle.rules.specs.Runs.{Event, Run, Knows}
 use Rattle.rules.specs.Laws.{joined_with}
 

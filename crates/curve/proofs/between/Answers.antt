@@ -1,5 +1,5 @@
 -- What is added is a part of what the flow rises by.
-use Rattle.std.proofs.Common.{◌-◌, ◌≤◌, arith}
+use Rattle.std.proofs.Common.{◌≤◌, arith}
 use Rattle.std.proofs.lemmas.Int.{to_z-of_z}
 use Rattle.curve.proofs.Lines.{above_le, share_le}
 use Rattle.curve.proofs.between.Goals as goal

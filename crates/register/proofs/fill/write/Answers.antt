@@ -1,7 +1,6 @@
-use Rattle.std.proofs.Common.{◌≡◌, ◌+◌, ◌<◌, true, ◌≢◌, length, get_or, drop, pos, sym, refl, ap, ◌∙◌, subst, arith, w32, SFits, to_z, of_z, rules, below_more}
+use Rattle.std.proofs.Common.{◌≡◌, ◌+◌, ◌<◌, ◌≢◌, length, get_or, drop, pos, sym, refl, ap, ◌∙◌, subst, arith, w32, SFits, to_z, of_z, rules, below_more}
 use Rattle.std.proofs.lemmas.List.{get_or-set_same, get_or-set_other, drop-set-lt, drop-drop}
 use Rattle.std.proofs.lemmas.Int.{to_z-of_z}
-use Rattle.std.proofs.lemmas.Bool.Decides.{nat_tests}
 use Rattle.curve.specs.Curves.{points, Covered, FlowAt}
 use Rattle.register.proofs.Filling.{within-covered, first-is_flow}
 use Rattle.register.proofs.fill.write.Goals as goal

@@ -1,4 +1,4 @@
-use Rattle.std.proofs.Common.{◌≡◌, ◌+◌, ◌<◌, ◌≤◌, length, get_or, take, set, pos, ap, ◌∙◌, arith, w32, SFits, rules}
+use Rattle.std.proofs.Common.{get_or, pos, arith, w32, SFits, rules}
 use Rattle.std.proofs.lemmas.List.{length-set}
 use Rattle.std.proofs.lemmas.Int.{to_z-of_z}
 use Rattle.register.proofs.Copies.{copied_more, copied_all}

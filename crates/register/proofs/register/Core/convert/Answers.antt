@@ -1,11 +1,9 @@
-use Rattle.std.proofs.Common.{◌≡◌, length, get_or, take, drop, sym, refl, ap, ◌∙◌, subst, arith}
+use Rattle.std.proofs.Common.{get_or, take, refl, arith}
 use Rattle.std.proofs.lemmas.Result.{err_from_is_err_and}
-use Rattle.curve.specs.Curves.{points, Makes}
 use Rattle.curve.proofs.Points.{makes-size}
 use Rattle.rules.specs.Calls.{convert}
 use Rattle.register.specs.Filling.{Filled}
-use Rattle.register.specs.Meaning.{meaning, answer_of}
-use Rattle.register.specs.Places.{held, curve_of, blank}
+use Rattle.register.specs.Places.{blank}
 use Rattle.register.proofs.Calling.{carries, stands_in_force, convert-refused, convert-filled}
 use Rattle.register.proofs.Uses.{makes_at}
 use Rattle.register.proofs.register.Core.convert.Goals as goal

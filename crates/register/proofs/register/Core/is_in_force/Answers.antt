@@ -1,4 +1,4 @@
-use Rattle.std.proofs.Common.{◌≡◌, true, false, ⊎_elim}
+use Rattle.std.proofs.Common.{⊎_elim}
 use Rattle.std.proofs.lemmas.Bool.{cases_Bool}
 use Rattle.register.proofs.Calling.{nowhere}
 use Rattle.register.proofs.Looking.{in_force_of, not_in_force}

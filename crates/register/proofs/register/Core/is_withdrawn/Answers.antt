@@ -1,4 +1,4 @@
-use Rattle.std.proofs.Common.{◌≡◌, ℕ, true, false, arith}
+use Rattle.std.proofs.Common.{◌≡◌, ℕ, arith}
 use Rattle.register.proofs.Looking.{marked_of, withdrawn_of, not_past}
 use Rattle.register.proofs.register.Core.is_withdrawn.Goals as goal
 

@@ -1,7 +1,6 @@
-use Rattle.std.proofs.Common.{◌≡◌, ℕ, false, length, None, refl, ap, ◌∙◌, zero-le, arith}
+use Rattle.std.proofs.Common.{◌≡◌, ℕ, false, length, refl, ap, ◌∙◌, zero-le, arith}
 use mathlib.Core.Path.{fun_ext}
 use Rattle.std.proofs.lemmas.Bool.{both_ways}
-use Rattle.rules.specs.Registers.{State}
 use Rattle.register.specs.Meaning.{standing_of}
 use Rattle.register.specs.Places.{held, unused}
 use Rattle.register.proofs.Fresh.{none-marked, none-long, none-level, none-once, none-held}

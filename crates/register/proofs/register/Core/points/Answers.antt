@@ -1,5 +1,3 @@
-use Rattle.std.proofs.Common.{◌≡◌, Some, sym, refl, ap, ◌∙◌}
-use Rattle.rules.specs.Registers.{in_force}
 use Rattle.register.proofs.Calling.{nowhere}
 use Rattle.register.proofs.Looking.{in_force_at, not_in_force}
 use Rattle.register.proofs.register.Core.points.Goals as goal

@@ -1,16 +1,12 @@
-use Rattle.std.proofs.Common.{◌≡◌, ◌<◌, ◌≤◌, [], length, get_or, Some, None, sym, refl, ap, ◌∙◌, arith, rules}
+use Rattle.std.proofs.Common.{◌<◌, [], length, sym, refl, ap, ◌∙◌, arith}
 use Rattle.std.proofs.lemmas.List.{length-set}
 use Rattle.std.proofs.lemmas.Result.{err_from_is_err_and}
-use Rattle.curve.specs.Curves.{points}
 use Rattle.curve.proofs.Points.{makes-size}
-use Rattle.rules.specs.Calls.{publish, refused, accepted, published}
-use Rattle.refusal.specs.Refusals.{number_of}
-use Rattle.register.specs.Meaning.{meaning}
-use Rattle.register.specs.Places.{held, curve_of, Level}
+use Rattle.rules.specs.Calls.{publish, accepted}
+use Rattle.register.specs.Places.{curve_of, Level}
 use Rattle.register.specs.Soundness.{Sound}
 use Rattle.register.proofs.Calling.{nowhere, drawn_so, carries, publish-refused, publish-done, occupied}
 use Rattle.register.proofs.Laws.{few-set, level-set, placed-once, placed_law}
-use Rattle.register.proofs.Uses.{room}
 use Rattle.register.proofs.register.Core.publish.Goals as goal
 
 pub returns-in_err-place : goal.returns-in_err-place

@@ -1,10 +1,9 @@
-use Rattle.std.proofs.Common.{◌≡◌, ℕ, ◌≤◌, true, false, [], length, get_or, set, sym, refl, ap, ◌∙◌, subst, ⊎_elim, arith}
+use Rattle.std.proofs.Common.{true, false, [], length, get_or, sym, refl, ap, ◌∙◌, ⊎_elim, arith}
 use Rattle.std.proofs.lemmas.List.{length-set, get_or-set_other}
 use Rattle.std.proofs.lemmas.Bool.{cases_eq}
 use Rattle.std.proofs.lemmas.Result.{err_from_is_err_and}
 use Rattle.refusal.specs.Refusals.{number_of}
 use Rattle.rules.specs.Calls.{withdraw, refused, accepted, Withdraw, withdraw_1}
-use Rattle.rules.specs.Registers.{Number}
 use Rattle.register.specs.Meaning.{meaning}
 use Rattle.register.proofs.Calling.{carries, withdraw-done}
 use Rattle.register.proofs.Laws.{marked_law}

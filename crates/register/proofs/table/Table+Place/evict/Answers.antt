@@ -1,6 +1,5 @@
-use Rattle.std.proofs.Common.{◌≡◌, length, get_or, refl, ap, ◌∙◌}
+use Rattle.std.proofs.Common.{length, refl, ap, ◌∙◌}
 use Rattle.std.proofs.lemmas.List.{length-set}
-use Rattle.register.specs.Places.{held, once, blank}
 use Rattle.register.proofs.Changes.{held-some}
 use Rattle.register.proofs.Held.{nowhere-held}
 use Rattle.register.proofs.Laws.{freed-here, freed-others, freed-once, freed_free, freed-stays, levels_set, counts_set}
