@@ -4,7 +4,7 @@ use lib.Bits.{xor_lt}
 use Rattle.std.proofs.lemmas.List.{length-drop, nil_from_length}
 use Rattle.std.proofs.ByRecursion.{All-drop}
 use Rattle.modes.proofs.Pieces.{first_block}
-use Rattle.std.specs.List.{AllByRecursion as All}
+use Rattle.std.specs.List.{AllByRecursion}
 use Rattle.cipher.specs.Blocks.{Sound, Inverse}
 use Rattle.cipher.specs.Bytes.{Bytes, word, bytes_of, block_at}
 use Rattle.cipher.proofs.Bytes.{word_bytes-word, word-word_bytes}
@@ -20,7 +20,7 @@ use Rattle.modes.specs.Texts.{Whole, enciphered, following, OneText}
 word_low : (a b c d : ℕ) → a < 256 → b < 256 → c < 256 → d < 256 → word a b c d < 2 ^ 32
 word_low a b c d p q r s = omega arith
 
-pub blocks-bytes : (bs : List Block) → All Sound bs → blocks (bytes bs) ≡ bs
+pub blocks-bytes : (bs : List Block) → AllByRecursion Sound bs → blocks (bytes bs) ≡ bs
 blocks-bytes [] h = refl
 blocks-bytes (b ∷ bs) h =
     let l = word-word_bytes b.left h.0.0 in
@@ -58,7 +58,7 @@ byte_at [] i p = omega arith
 byte_at (x ∷ xs) zero p = p.0
 byte_at (x ∷ xs) (suc i) p = byte_at xs i p.1
 
-cut-sound : (n : ℕ) (xs : List ℕ) → Bytes xs → All Sound (cut n xs)
+cut-sound : (n : ℕ) (xs : List ℕ) → Bytes xs → AllByRecursion Sound (cut n xs)
 cut-sound zero xs p = tt
 cut-sound (suc n) xs p =
     let at : (i : ℕ) → get_or xs i 0 < 256 = λ i. byte_at xs i p in (
@@ -66,7 +66,7 @@ cut-sound (suc n) xs p =
       cut-sound n (drop 8 xs) (All-drop _ 8 xs p),
     )
 
-pub blocks-sound : (xs : List ℕ) → Bytes xs → All Sound (blocks xs)
+pub blocks-sound : (xs : List ℕ) → Bytes xs → AllByRecursion Sound (blocks xs)
 blocks-sound xs p = cut-sound (length xs / 8) xs p
 
 pub bytes-proper : (bs : List Block) → Bytes (bytes bs)
@@ -95,11 +95,11 @@ pub record Undoes (f g : Block → Block → Step) : Type 0 where
   pub along : (s t : Block) → Sound s → Sound t → (g s (f s t).out).chain ≡ (f s t).chain
 
 module _ {f g : Block → Block → Step} (u : Undoes f g) where
-  pub outs-sound : (s : Block) (ts : List Block) → Sound s → All Sound ts → All Sound (outs f s ts)
+  pub outs-sound : (s : Block) (ts : List Block) → Sound s → AllByRecursion Sound ts → AllByRecursion Sound (outs f s ts)
   outs-sound s [] p q = tt
   outs-sound s (t ∷ ts) p q = (u.out-sound s t p q.0, outs-sound (f s t).chain ts (u.chain_sound s t p q.0) q.1)
 
-  pub outs_back : (s : Block) (ts : List Block) → Sound s → All Sound ts → outs g s (outs f s ts) ≡ ts
+  pub outs_back : (s : Block) (ts : List Block) → Sound s → AllByRecursion Sound ts → outs g s (outs f s ts) ≡ ts
   outs_back s [] p q = refl
   outs_back s (t ∷ ts) p q =
       let next = (f s t).chain in
@@ -107,7 +107,7 @@ module _ {f g : Block → Block → Step} (u : Undoes f g) where
       ∙ ap (λ (b : Block). b ∷ outs g next (outs f next ts)) (u.back s t p q.0)
       ∙ ap (λ (l : List Block). t ∷ l) (outs_back next ts (u.chain_sound s t p q.0) q.1)
 
-  pub after-back : (s : Block) (ts : List Block) → Sound s → All Sound ts → after g s (outs f s ts) ≡ after f s ts
+  pub after-back : (s : Block) (ts : List Block) → Sound s → AllByRecursion Sound ts → after g s (outs f s ts) ≡ after f s ts
   after-back s [] p q = refl
   after-back s (t ∷ ts) p q =
       let next = (f s t).chain in
@@ -177,7 +177,7 @@ module _ {E D : Block → Block} (k : Inverse E D) where
   pub one-text : (m : Mode) (s : Block) (given text : List ℕ) → Sound s → Bytes given → Whole given → text ≡ bytes (outs (backward m E D) s (blocks given)) → OneText m E s given text
   one-text m s given text p q w e =
       let ts = outs (backward m E D) s (blocks given) in
-      let sound : All Sound ts = outs-sound (redone m) s (blocks given) p (blocks-sound given q) in
+      let sound : AllByRecursion Sound ts = outs-sound (redone m) s (blocks given) p (blocks-sound given q) in
       let same : blocks text ≡ ts = ap blocks e ∙ blocks-bytes ts sound in
       let long : length given ≡ 8 * length (blocks given) = sym (ap length (bytes-blocks given q w.0)) ∙ length-bytes (blocks given) in
       let size : length text ≡ length given = ap length e ∙ length-bytes ts ∙ ap (λ n. 8 * n) (length-outs (backward m E D) s (blocks given)) ∙ sym long in
@@ -196,7 +196,7 @@ module _ {E D : Block → Block} (k : Inverse E D) where
   pub goes_on : (m : Mode) (s : Block) (given text : List ℕ) → Sound s → Bytes given → text ≡ bytes (outs (backward m E D) s (blocks given)) → after (backward m E D) s (blocks given) ≡ following m E s text
   goes_on m s given text p q e =
       let ts = outs (backward m E D) s (blocks given) in
-      let sound : All Sound ts = outs-sound (redone m) s (blocks given) p (blocks-sound given q) in
+      let sound : AllByRecursion Sound ts = outs-sound (redone m) s (blocks given) p (blocks-sound given q) in
       let same : blocks text ≡ ts = ap blocks e ∙ blocks-bytes ts sound in
       sym (after-back (redone m) s (blocks given) p (blocks-sound given q)) ∙ ap (after (forward m E) s) (sym same)
 
