@@ -3,7 +3,7 @@
 --   sword t k i         word i of box k, counted from 0
 --   combined a b c d    f of the words that the four boxes give
 --   f t w               f of a word: its bytes, highest first, pick a word of each box
---   odd_round t i b      the round with the odd number i + 1; even_round the same with the halves exchanged
+--   odd_round t i b     the round with the odd number i + 1; even_round the same with the halves exchanged
 --   begun t i b         two words of P xored into the halves
 --   enciphering t n b   n pairs of rounds, then the next two words of P, and the halves exchanged; deciphering undoes it
 --   enciphered t b      E under the tables t

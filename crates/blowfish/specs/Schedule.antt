@@ -1,8 +1,8 @@
 -- How the tables come from a key.
---   key_word_of key i      what word i of P is xored with: the key's bytes at the places 4i to 4i + 3, each modulo the key's length
+--   key_word_of key i  what word i of P is xored with: the key's bytes at the places 4i to 4i + 3, each modulo the key's length
 --   mixed key t        the tables with the key's words in P
 --   Going              tables, and the block that was enciphered last
---   step_p i x          one encipherment, which replaces pair i of P; step_s k i x pair i of box k
+--   step_p i x         one encipherment, which replaces pair i of P; step_s k i x pair i of box k
 --   filled t           all pairs replaced, from the zero block on: 9 of P, then 128 of each box
 --   initial            the tables of pi
 --   scheduled t key    the tables under a key, from the tables t on

@@ -1,9 +1,9 @@
 -- What a chosen cipher does, by cases.
---   keyed_enc c, keyed_dec c        E and D of a keyed cipher
+--   keyed_enc c, keyed_dec c      E and D of a keyed cipher
 --   Lengths k n                   ciphers of kind k take keys of n bytes
---   enc_under k, dec_under k        E and D of a kind under a key
+--   enc_under k, dec_under k      E and D of a kind under a key
 --   Loaded s t key                t is s with the key loaded
---   chosen_enc c, chosen_dec c      E and D of a chosen cipher; three in a row are first E, then D, then E
+--   chosen_enc c, chosen_dec c    E and D of a chosen cipher; three in a row are first E, then D, then E
 --   Fresh k c                     c is of kind k, before any load: Blowfish at the tables of pi, XTEA under sixteen zero bytes
 use Rattle.std.specs.Prelude.{List, ◌≡◌, ℕ, length, replicate}
 use Rattle.blowfish.specs.Blowfish as blowfish

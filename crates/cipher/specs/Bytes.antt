@@ -1,11 +1,11 @@
 -- Words and blocks as bytes, big-endian, the left word first.
 --   Bytes xs        each of xs is a byte
 --   word a b c d    the word of four bytes, the first one highest
---   word_bytes w     the four bytes of a word
---   word_at xs i     the word whose bytes stand in xs from place i on
---   block_at xs i    the block whose bytes stand in xs from place i on
---   block_of xs      the block of the first eight bytes of xs
---   bytes_of b       the eight bytes of a block
+--   word_bytes w    the four bytes of a word
+--   word_at xs i    the word whose bytes stand in xs from place i on
+--   block_at xs i   the block whose bytes stand in xs from place i on
+--   block_of xs     the block of the first eight bytes of xs
+--   bytes_of b      the eight bytes of a block
 use Rattle.std.specs.Prelude.{ℕ, ◌+◌, ◌*◌, ◌/◌, ◌%◌, ◌<◌, List, [], ◌∷◌, ◌++◌, slice_index}
 use Rattle.std.specs.List.{AllByRecursion}
 use Rattle.cipher.specs.declared.block.Block.{Block}

@@ -7,7 +7,7 @@
 --   LawfulCurve c       2 to 16 points in range, stages that rise strictly, flows that never fall
 --   Makes ss qs         the lists are of equal length and make a lawful curve
 --   above a s           how far the stage s lies above the stage a
---   flow_between a b s   the flow at s on the line from a to b, rounded down
+--   flow_between a b s  the flow at s on the line from a to b, rounded down
 --   Between c k s       s lies from the point at k to its neighbour, ends counted in
 --   FlowAt c s q        q is the flow at the stage s
 --   Covered c s         s is neither below the first point nor above the last

@@ -1,5 +1,5 @@
 -- Bytes in capital hexadecimal digits.
---   digit_of d       the digit of a number below 16
+--   digit_of d      the digit of a number below 16
 --   spelled bs      the digits of bytes, two to a byte, the higher first
 --   Unspelt n ds    no n bytes are spelled ds
 --   NoBlock ds      no block is spelled ds

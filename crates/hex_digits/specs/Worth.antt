@@ -1,5 +1,5 @@
 -- What the reader of digits goes by.
---   worth_of c       what a digit is worth; 16 for a byte that is no digit
+--   worth_of c      what a digit is worth; 16 for a byte that is no digit
 --   AllDigits ds    each of ds is a digit
 --   SomeOther ds    some place of ds holds no digit
 use Rattle.std.specs.Prelude.{◌≡◌, ℕ, ◌-◌, ◌<◌, cond, List, length, nat_lt, slice_index}

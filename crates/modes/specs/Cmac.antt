@@ -1,8 +1,8 @@
 -- The tag: CMAC with blocks of 64 bits.
 --   doubled b           one bit to the left over both words, and 1B into it where the top bit was set
 --   padded rest         fewer than eight bytes, then 80 and zeros
---   last_block k1 k2 r   a full last block with k1, otherwise the padded one with k2
---   tag_of E xs          the tag of a text
+--   last_block k1 k2 r  a full last block with k1, otherwise the padded one with k2
+--   tag_of E xs         the tag of a text
 use Rattle.std.specs.Prelude.{◌≡◌, ℕ, ◌-◌, ◌*◌, ◌/◌, ◌%◌, ◌^◌, ◌≤◌, cond, List, [], ◌∷◌, ◌++◌, length, drop, Result, ◌==◌, bit_or, bit_xor, nat_lt}
 use Rattle.cipher.specs.declared.block.Block.{Block}
 use Rattle.cipher.specs.Bytes.{block_of}

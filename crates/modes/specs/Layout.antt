@@ -1,6 +1,6 @@
 -- Blocks in a text, big-endian, the left word first.
---   with_block xs i b    xs with the bytes of b from place i on; with_four, with_eight for several
---   four_at xs i         the four blocks from place i on; eight_at the eight
+--   with_block xs i b   xs with the bytes of b from place i on; with_four, with_eight for several
+--   four_at xs i        the four blocks from place i on; eight_at the eight
 --   bytes bs            the bytes of blocks, one after the other
 --   blocks xs           the blocks of a text; fewer than eight bytes at the end make none
 use Rattle.std.specs.Prelude.{ℕ, zero, suc, ◌+◌, ◌/◌, List, [], ◌∷◌, ◌++◌, length, take, drop}

@@ -1,7 +1,7 @@
 -- Refusals.
---   number_of e     the number of a refusal
---   layer_of n      the layer that a number tells
---   reason_of e     the bytes of its reason
+--   number_of e    the number of a refusal
+--   layer_of n     the layer that a number tells
+--   reason_of e    the bytes of its reason
 --   Answers r P Q  P of what an accepted call answered, Q of the number of a refused one
 use Rattle.std.specs.Prelude.{ℕ, cond, List, Ok, Err, codes, Result, nat_lt}
 use Rattle.refusal.specs.declared.Layer.{Layer}

@@ -1,6 +1,6 @@
 -- What a register is, seen by number, and how its calls answer.
 --   meaning r         the state of a register, its places hidden
---   answer_of r        the answer of a call, by number
+--   answer_of r       the answer of a call, by number
 --   Occupied          some place that was free is in force with a number and its curve, and every other is as before
 --   Vacated           the place that was in force with a number is free, and every other is as before
 --   Refused r         the call was refused

@@ -1,12 +1,12 @@
 -- The places of the table, and what they hold.
---   bears s n      a place of the state s is in force with the number n
---   is_free_place s       a place of the state s is free
---   curve_of p      the curve in the arrays of a place
---   Level p        it has as many stages as flows
---   held ps n      the curve that is in force with the number n
---   Nowhere ps n   no place is in force with the number n
---   NoneFree ps    no place is free
---   once ps n      at most one place is in force with the number n
+--   bears s n        a place of the state s is in force with the number n
+--   is_free_place s  a place of the state s is free
+--   curve_of p       the curve in the arrays of a place
+--   Level p          it has as many stages as flows
+--   held ps n        the curve that is in force with the number n
+--   Nowhere ps n     no place is in force with the number n
+--   NoneFree ps      no place is free
+--   once ps n        at most one place is in force with the number n
 use Rattle.std.specs.Prelude.{◌≡◌, ℕ, ◌<◌, Bool, true, false, cond, not, List, [], ◌∷◌, length, take, replicate, pos, is_some, Some, None, Option, ◌==◌, slice_index_or}
 use Rattle.curve.specs.Curves.{Curve, points}
 use Rattle.register.specs.declared.place.Place.{Place}

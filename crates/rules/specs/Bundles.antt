@@ -4,8 +4,8 @@
 --   LawfulList xs     entries by strictly rising number, lawful curves, at most 32 of them
 --   Bundle bytes      a lawful bundle: these bytes are the encoding of a lawful list
 --   told xs n         what the list tells of the number n, if anything
---   entries_of s       the entries of a register, by rising number
---   bundle_of s        the bundle of a register
+--   entries_of s      the entries of a register, by rising number
+--   bundle_of s       the bundle of a register
 --   padded xs         xs with 1 to 8 bytes, each equal to their count, up to a multiple of 8
 --   PadsTo xs text    text is xs and k bytes equal to k, with k from 1 to 8
 use Rattle.std.specs.Prelude.{◌≡◌, ℕ, zero, suc, ◌+◌, ◌-◌, ◌/◌, ◌%◌, ◌^◌, ◌<◌, ◌≤◌, cond, List, [], ◌∷◌, ◌++◌, length, replicate, ℤ, pos, negsuc, Some, None, Option, ◌==◌}

@@ -1,12 +1,12 @@
 -- The parcel: a bundle enciphered and tagged. E1 is the first cipher's E, E2 the second's.
---   header m station serial    the first eight bytes
+--   header m station serial     the first eight bytes
 --   start_of E1 station serial  the starting block
 --   parcel_of E1 E2 m s         what a register in the state s seals in the mode m
---   Sized bytes                24 to 8,216 bytes, a multiple of 8
---   Parcel bytes               a header within the rule, then a body, then eight bytes for the tag
---   Tagged E2 p                the tag is that of header and body
---   Text E1 p text             text is the one text that enciphers to the body
---   Reads E1 p xs              that text is xs and its padding
+--   Sized bytes                 24 to 8,216 bytes, a multiple of 8
+--   Parcel bytes                a header within the rule, then a body, then eight bytes for the tag
+--   Tagged E2 p                 the tag is that of header and body
+--   Text E1 p text              text is the one text that enciphers to the body
+--   Reads E1 p xs               that text is xs and its padding
 use Rattle.std.specs.Prelude.{◌≡◌, ℕ, ◌+◌, ◌%◌, ◌≤◌, List, ◌∷◌, ◌++◌, length}
 use Rattle.cipher.specs.declared.block.Block.{Block}
 use Rattle.cipher.specs.Bytes.{word_bytes, bytes_of}

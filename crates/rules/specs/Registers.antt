@@ -1,12 +1,12 @@
 -- A register, seen by number: which place a curve lies in is hidden.
---   Number n          a number that a curve can have, 1 to 1,024
---   Standing          what may be known of a number: a curve in force, or that it is withdrawn
---   State             station, serial, and for each number its standing, if it has one
---   count p           how many numbers from 1 to 1,024 pass the test p
---   places_in_use f           how many curves are in force
---   Lawful s          what every register keeps
+--   Number n           a number that a curve can have, 1 to 1,024
+--   Standing           what may be known of a number: a curve in force, or that it is withdrawn
+--   State              station, serial, and for each number its standing, if it has one
+--   count p            how many numbers from 1 to 1,024 pass the test p
+--   places_in_use f    how many curves are in force
+--   Lawful s           what every register keeps
 --   new_state station  a new register: no curve, no mark, serial 0
---   put n x s         s, but for the standing of the number n
+--   put n x s          s, but for the standing of the number n
 use Rattle.std.specs.Prelude.{◌≡◌, ℕ, zero, suc, ◌+◌, ◌≤◌, Bool, true, false, cond, Some, None, Option, ◌==◌}
 use Rattle.curve.specs.Curves.{Curve, LawfulCurve}
 

@@ -1,14 +1,14 @@
 -- How calls are written.
---   Making            what a cipher is made as; making_words are the words that say it, NoMaking that none does
---   bytes_word bs      bytes as a word: capital hexadecimal digits, or a hyphen for none
---   Working           what is enciphered or deciphered; working_words are the words that say it
---   Args v            what a call of the verb is about
---   arg_words v a      the words that say it
---   Lawful v a        its bytes are bytes, its block is one
---   verb_of c, args_of c    a call's verb, and what it is about
---   Says ws c         the words ws are the call c
---   Fault v ws e      why the words ws after the verb v are no call
---   Reads ws r        r is what is read off the words of a line
+--   Making                what a cipher is made as; making_words are the words that say it, NoMaking that none does
+--   bytes_word bs         bytes as a word: capital hexadecimal digits, or a hyphen for none
+--   Working               what is enciphered or deciphered; working_words are the words that say it
+--   Args v                what a call of the verb is about
+--   arg_words v a         the words that say it
+--   Lawful v a            its bytes are bytes, its block is one
+--   verb_of c, args_of c  a call's verb, and what it is about
+--   Says ws c             the words ws are the call c
+--   Fault v ws e          why the words ws after the verb v are no call
+--   Reads ws r            r is what is read off the words of a line
 use Rattle.std.specs.Prelude.{◌≡◌, ℕ, List, [], ◌∷◌, Some, None, Ok, Err, vec_items, codes, Option, Result, Vec, ◌≢◌}
 use Rattle.std.specs.Borrow.{Bor}
 use Rattle.std.specs.declared.alloc.AllocError.{AllocError}

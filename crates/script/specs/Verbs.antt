@@ -1,7 +1,7 @@
 -- The words that calls begin with.
---   verb_word v    the word of a verb
+--   verb_word v   the word of a verb
 --   NoVerb w      w is the word of no verb
---   usage_of v     how a call of the verb is written, for people
+--   usage_of v    how a call of the verb is written, for people
 use Rattle.std.specs.Prelude.{ℕ, List, codes, ◌≢◌}
 use Rattle.script.specs.declared.verb.Verb.{Verb}
 use Rattle.script.specs.declared.verb.Verb.TheVariants.{Cipher, Load, Encipher, Decipher, Mode, Tag}

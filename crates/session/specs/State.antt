@@ -5,7 +5,7 @@
 --   put n m s      the same state, but that n stands for m
 --   At n s i       the name n stands at place i of s
 --   Shown s i n k  the i-th name is n, which stands for a cipher of kind k
---   keyed_at n s    the keyed cipher that a name stands for, or why there is none
+--   keyed_at n s   the keyed cipher that a name stands for, or why there is none
 use Rattle.std.specs.Prelude.{◌≡◌, ℕ, ◌<◌, cond, List, [], ◌∷◌, length, Some, None, Ok, Err, Option, Result, slice_index_or, slice_set}
 use Rattle.std.specs.Str.{bytes_eq}
 use Rattle.chosen.specs.declared.Kind.{Kind}

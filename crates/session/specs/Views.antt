@@ -1,6 +1,6 @@
 -- What named ciphers mean.
 --   meaning c      what a chosen cipher is
---   entry_of e      a name with what it stands for
+--   entry_of e     a name with what it stands for
 --   standing x     the names and what they stand for
 use Rattle.std.specs.Prelude.{ℕ, List, map, vec_items}
 use Rattle.chosen.specs.declared.Chosen.{Chosen}

@@ -1,6 +1,6 @@
 -- A season at three stations, call by call: a curve is published and passed on, withdrawn, the withdrawal is passed on,
 -- and the old parcel is opened once more, late.
---   curve_k          the curve (−200, 0), (0, 1500), (400, 9500)
+--   curve_k         the curve (−200, 0), (0, 1500), (400, 9500)
 --   season E1 E2    the calls, over the ciphers whose E are E1 and E2
 --   Season          it is a run of three registers, and at its end all three know of the withdrawal
 use Rattle.std.specs.Prelude.{ℕ, ◌+◌, List, [], ◌∷◌, ◌++◌, length, drop, replicate, ℤ, pos, negsuc}

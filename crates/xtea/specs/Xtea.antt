@@ -1,14 +1,14 @@
 -- XTEA, 32 cycles under a key of four words.
 --   mixed v            m(v): v shifted left by 4 xor v shifted right by 5, and v added
---   left_word_of k s       a sum with the key's word for the left half; right_word_of for the right
---   left_share k s v    what the left half gains from the right one, v; right_share the other way
+--   left_word_of k s   a sum with the key's word for the left half; right_word_of for the right
+--   left_share k s v   what the left half gains from the right one, v; right_share the other way
 --   cycled k s b       one cycle that begins at the sum s
 --   uncycled k s b     the cycle undone
---   sum_at i            the sum at which cycle i begins
+--   sum_at i           the sum at which cycle i begins
 --   cycles k n b       the first n cycles; uncycles undoes them
 --   enciphered k b     E under the key words k
 --   deciphered k b     D under the key words k
---   key_words key       the four words of a key of sixteen bytes
+--   key_words key      the four words of a key of sixteen bytes
 use Rattle.std.specs.Prelude.{ℕ, zero, suc, ◌*◌, ◌/◌, ◌%◌, ◌^◌, List, [], ◌∷◌, bit_xor, slice_index}
 use Rattle.cipher.specs.declared.block.Block.{Block}
 use Rattle.cipher.specs.Bytes.{word_at}
