@@ -1,12 +1,13 @@
 #!/usr/bin/env python3
 """Brings the names of definitions and lemmas to the spelling of today's Rattle: words in snake case.
 
-usage: python3 tools/snake_names.py            at the top, once, after the toolchain's own port.py
+usage: python3 tools/snake_names.py            at the top, after the toolchain's own port.py
 
 A hump becomes an underscore (`blockOf` is `block_of`), and so does a dash between plain words (`put-here` is
-`put_here`); a dash that joins two names stays (`word-word_bytes`). Only names that .antt files declare, and ghost
-members of traits, are turned, in .antt, .rt and .edit files; a name of a goal or of a step that Rattle makes keeps
-its form. A name that would fall together with another gets the ending `_lem`, or the one of APART.
+`put_here`). A dash stays where it joins two functions of specs/ or of the library in the name of a lemma
+(`word_bytes-word`). Only names that .antt files declare, and ghost members of traits, are turned, in .antt, .rt and
+.edit files; a name of a goal or of a step that Rattle makes keeps its form. APART has the names that would otherwise
+fall together with another. Run again, it turns nothing.
 """
 import collections
 import os
@@ -15,12 +16,12 @@ import sys
 
 TOKEN = re.compile(r"(?<![\w'])[A-Za-z_][\w']*(?:-[\w']+)*")
 DECLARED = re.compile(
-    r"^\s*(?:(?:abbrev|unfoldable|pub|record|data|ruleset)\s+)*"
+    r"^([ ]*)((?:(?:abbrev|unfoldable|pub|record|data|ruleset)\s+)*)"
     r"([A-Za-z_][\w']*(?:-[\w']+)*)\s*(?:\([^()]*\)\s*)*:(?!=)\s*(\S+)",
     re.M,
 )
-# names of src/ or of the library that stand beside a definition of the same words
 APART = {
+    # functions of src/ stand beside these
     "takenIn": "taken_in_from",
     "leftWord": "left_word_of",
     "rightWord": "right_word_of",
@@ -29,8 +30,30 @@ APART = {
     "oddBack": "odd_back_of",
     "isFree": "is_free_place",
     "inUse": "places_in_use",
+    # definitions stand beside these, fields and lemmas
+    "curve-of": "lawful_points",
+    "curve_of_lem": "lawful_points",
+    "five-and-seven": "bundle_of_five_and_seven",
+    "five_and_seven_lem": "bundle_of_five_and_seven",
+    "in-force": "now_in_force",
+    "in_force_lem": "now_in_force",
+    "in-range": "each_in_range",
+    "in_range_lem": "each_in_range",
+    "key-words": "words_of_a_key",
+    "key_words_lem": "words_of_a_key",
+    "word-bytes": "bytes_of_a_word",
+    "curve-bytes": "bytes_of_a_curve",
+    "taken-in": "whole_taken_in",
+    "sealed-is-taken-in": "sealed_is_taken_in",
+    # these go by the name of the function whose contract names them
+    "withdrawn-stays-withdrawn": "withdrawn_stays_withdrawn",
+    "withdrawn-stays_withdrawn": "withdrawn_stays_withdrawn",
+    "starting-blocks-differ": "starting_blocks_differ",
+    "starting_blocks_differ_lem": "starting_blocks_differ",
+    "flows-come-from-a-publish": "flows_come_from_a_publish",
+    "flows_come_from_a_publish_lem": "flows_come_from_a_publish",
 }
-# what the library calls functions, so that a dash after one joins two names
+# functions of the library that names of lemmas begin or end with
 STD = "length append drop take replicate map set".split()
 
 
@@ -54,12 +77,14 @@ def snake(name):
 
 def main():
     texts = {p: open(p, encoding="utf-8").read() for p in files()}
-    declared, taken = set(), collections.Counter()
+    declared, functions, taken = set(), set(STD), collections.Counter()
     for path, text in texts.items():
         if path.endswith(".antt"):
-            for m in DECLARED.finditer(text):
-                if not made(path, m.group(2)):
-                    declared.add(m.group(1))
+            for indent, words, name, kind in DECLARED.findall(text):
+                if not made(path, kind):
+                    declared.add(name)
+                    if "/specs/" in path and not indent and re.search("abbrev|unfoldable", words):
+                        functions.add(snake(name))
             declared.update(re.findall(r" as ([a-z]\w*)", text))
             text = re.sub(r"--.*", "", text)
         elif path.endswith(".rt"):
@@ -67,26 +92,29 @@ def main():
             declared.update(n for line in re.findall(r"ghost use .*", text) for n in re.findall(r" as ([a-z]\w*)", line))
             text = re.sub(r"//.*", "", text)
         taken.update(TOKEN.findall(text))
-    declared = {n for n in declared if n[0].islower()}
-    words = {snake(n) for n in declared if "-" not in n} | set(STD)
+    fields = {
+        name
+        for path, text in texts.items()
+        if path.endswith(".antt")
+        for indent, words, name, kind in DECLARED.findall(text)
+        if indent and "/specs/" in path
+    }
 
     turned = {}
-    for name in sorted(declared):
+    for name in sorted(n for n in declared if n[0].islower()):
         new = APART.get(name)
         if new is None:
             parts = [snake(p) for p in name.split("-")]
             new = parts[0]
             for part in parts[1:]:
-                new += ("-" if new in words and part in words else "_") + part
+                joins = new in functions and part in functions and name not in fields
+                new += ("-" if joins else "_") + part
         if new != name:
             turned[name] = new
-    # what falls together gets another ending; a definition goes before a lemma
-    seen = {n for n in taken if n not in turned}
-    for name in sorted(turned, key=lambda n: ("-" in n, n)):
-        while turned[name] in seen:
-            print(f"apart: {name} would be {turned[name]}, which there is already")
-            turned[name] += "_lem"
-        seen.add(turned[name])
+    told = collections.Counter(turned.values())
+    double = [f"{n} would be {new}" for n, new in sorted(turned.items()) if n not in APART and (new in taken or told[new] > 1)]
+    if double:
+        sys.exit("\n".join(double + ["There are such names already: give these names in APART."]))
     for path, text in texts.items():
         # an edit may still have names that port.py turned elsewhere
         edit = path.endswith(".edit")

@@ -4,7 +4,7 @@ use Rattle.std.proofs.Common.{sym, ap, subst}
 use Rattle.blowfish.specs.Feistel as blowfish
 use Rattle.cipher.specs.Blocks.{Inverse}
 use Rattle.cipher.specs.Keys.{Alike}
-use Rattle.cipher.specs.Inverses.{inverse-triple}
+use Rattle.cipher.specs.Inverses.{inverse_triple}
 use Rattle.xtea.specs.Cycles as xtea
 use Rattle.chosen.specs.declared.Chosen.{Chosen}
 use Rattle.chosen.specs.declared.Chosen.TheVariants.{One, Three}
@@ -13,15 +13,15 @@ use Rattle.chosen.specs.declared.Keyed.TheVariants.{Blowfish, Xtea}
 use Rattle.chosen.specs.declared.Kind.{Kind}
 use Rattle.chosen.specs.Meanings.{Loaded, keyed_enc, keyed_dec, Lengths, enc_under, dec_under, chosen_enc, chosen_dec}
 
-pub keyed-inverse : (c : Keyed) → Inverse (keyed_enc c) (keyed_dec c)
-keyed-inverse (Blowfish x) = blowfish.inverse x
-keyed-inverse (Xtea x) = xtea.inverse x.key
+pub keyed_inverse : (c : Keyed) → Inverse (keyed_enc c) (keyed_dec c)
+keyed_inverse (Blowfish x) = blowfish.inverse x
+keyed_inverse (Xtea x) = xtea.inverse x.key
 
 pub chosen_inverse : (c : Chosen) → Inverse (chosen_enc c) (chosen_dec c)
-chosen_inverse (One c) = keyed-inverse c
+chosen_inverse (One c) = keyed_inverse c
 chosen_inverse (Three t) =
-    inverse-triple (keyed_enc t.first) (keyed_dec t.first) (keyed_enc t.second) (keyed_dec t.second) (keyed_enc t.third) (keyed_dec t.third)
-    (keyed-inverse t.first) (keyed-inverse t.second) (keyed-inverse t.third)
+    inverse_triple (keyed_enc t.first) (keyed_dec t.first) (keyed_enc t.second) (keyed_dec t.second) (keyed_enc t.third) (keyed_dec t.third)
+    (keyed_inverse t.first) (keyed_inverse t.second) (keyed_inverse t.third)
 
 -- a fact at the variant that s is holds at s
 pub loaded_at : (s t x : Keyed) (key : List ℕ) → s ≡ x → Loaded x t key → Loaded s t key

@@ -9,7 +9,7 @@ ghost use Rattle.refusal.specs.Refusals.{Answers};
 ghost use Rattle.cipher.specs.Keys.{Alike};
 ghost use Rattle.chosen.specs.Kinds.{kind_name, keyed_kind, chosen_kind};
 ghost use Rattle.chosen.specs.Meanings.{keyed_enc, keyed_dec, chosen_enc, chosen_dec, Lengths, enc_under as enc_keyed, dec_under as dec_keyed, Loaded, Fresh};
-ghost use Rattle.chosen.specs.Laws.{keyed-inverse, chosen_inverse};
+ghost use Rattle.chosen.specs.Laws.{keyed_inverse, chosen_inverse};
 
 use blowfish::Blowfish;
 use cipher::block::{Block, Eight};
@@ -84,7 +84,7 @@ impl BlockCipher for Keyed {
 
     ghost dec = { keyed_dec };
 
-    ghost inverse = { keyed-inverse };
+    ghost inverse = { keyed_inverse };
 
     fn encipher(&self, block: Block) -> Block {
         match self {

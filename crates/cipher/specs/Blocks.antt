@@ -8,7 +8,7 @@ abbrev pub Sound : Block → Type 0
 Sound b = (b.left < 2 ^ 32) × (b.right < 2 ^ 32)
 
 pub record Inverse (E D : Block → Block) : Type 0 where
-  pub enc-sound : (b : Block) → Sound b → Sound (E b)
-  pub dec-sound : (b : Block) → Sound b → Sound (D b)
-  pub dec-enc : (b : Block) → Sound b → D (E b) ≡ b
-  pub enc-dec : (b : Block) → Sound b → E (D b) ≡ b
+  pub enc_sound : (b : Block) → Sound b → Sound (E b)
+  pub dec_sound : (b : Block) → Sound b → Sound (D b)
+  pub dec_enc : (b : Block) → Sound b → D (E b) ≡ b
+  pub enc_dec : (b : Block) → Sound b → E (D b) ≡ b

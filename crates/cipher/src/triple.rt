@@ -17,7 +17,7 @@ impl<X: BlockCipher, Y: BlockCipher, Z: BlockCipher> BlockCipher for Triple<X, Y
 
     ghost dec = { λ t b. X.BlockCipher.dec t.first (Y.BlockCipher.enc t.second (Z.BlockCipher.dec t.third b)) };
 
-    ghost inverse = { λ t. Inverses.inverse-triple _ _ _ _ _ _ (X.BlockCipher.inverse t.first) (Y.BlockCipher.inverse t.second) (Z.BlockCipher.inverse t.third) };
+    ghost inverse = { λ t. Inverses.inverse_triple _ _ _ _ _ _ (X.BlockCipher.inverse t.first) (Y.BlockCipher.inverse t.second) (Z.BlockCipher.inverse t.third) };
 
     fn encipher(&self, block: Block) -> Block {
         self.third

@@ -10,10 +10,10 @@ dec_le_z a b = by_lt_z b a (λ l. no (λ h. omega (arith, ints, l, h))) (λ g. y
 dec_lt_z : (a b : ℤ) → Dec (a <ℤ b)
 dec_lt_z a b = by_lt_z a b (λ l. yes l) (λ g. no (λ h. omega (arith, ints, g, h)))
 
-dec-both : {P Q : Type 0} → Dec P → Dec Q → Dec (P × Q)
-dec-both (yes p) (yes q) = yes (p, q)
-dec-both (yes p) (no n) = no (λ h. n h.1)
-dec-both (no n) d = no (λ h. n h.0)
+dec_both : {P Q : Type 0} → Dec P → Dec Q → Dec (P × Q)
+dec_both (yes p) (yes q) = yes (p, q)
+dec_both (yes p) (no n) = no (λ h. n h.1)
+dec_both (no n) d = no (λ h. n h.0)
 
 dec_if : {P Q : Type 0} → Dec P → Dec Q → Dec (P → Q)
 dec_if (no n) d = yes (λ p. absurd (n p))
@@ -21,9 +21,9 @@ dec_if (yes p) (yes q) = yes (λ _. q)
 dec_if (yes p) (no n) = no (λ f. n (f p))
 
 -- of each number below n
-dec-below : (P : ℕ → Type 0) → ((k : ℕ) → Dec (P k)) → (n : ℕ) → Dec ((k : ℕ) → k < n → P k)
-dec-below P d zero = yes (λ k h. absurd (omega arith))
-dec-below P d (suc n) = go (dec-below P d n) (d n)
+dec_below : (P : ℕ → Type 0) → ((k : ℕ) → Dec (P k)) → (n : ℕ) → Dec ((k : ℕ) → k < n → P k)
+dec_below P d zero = yes (λ k h. absurd (omega arith))
+dec_below P d (suc n) = go (dec_below P d n) (d n)
   where
     go : Dec ((k : ℕ) → k < n → P k) → Dec (P n) → Dec ((k : ℕ) → k < suc n → P k)
     go (no f) e = no (λ g. f (λ k h. g k (omega arith)))
@@ -40,13 +40,13 @@ Fine c k = (negsuc 19999 ≤ℤ (point c k).stage) × (((point c k).stage ≤ℤ
 
 fine : (c : Curve) (k : ℕ) → Dec (Fine c k)
 fine c k =
-    dec-both (dec_le_z (negsuc 19999) (point c k).stage)
-    (dec-both (dec_le_z (point c k).stage (pos 60000))
-    (dec-both (dec_le (point c k).flow 2000000000)
-    (dec_if (dec_lt (k + 1) (length c)) (dec-both (dec_lt_z (point c k).stage (point c (k + 1)).stage) (dec_le (point c k).flow (point c (k + 1)).flow)))))
+    dec_both (dec_le_z (negsuc 19999) (point c k).stage)
+    (dec_both (dec_le_z (point c k).stage (pos 60000))
+    (dec_both (dec_le (point c k).flow 2000000000)
+    (dec_if (dec_lt (k + 1) (length c)) (dec_both (dec_lt_z (point c k).stage (point c (k + 1)).stage) (dec_le (point c k).flow (point c (k + 1)).flow)))))
 
 pub decide_lawful : (c : Curve) → Dec (LawfulCurve c)
-decide_lawful c = go (dec-both (dec_le 2 (length c)) (dec_le (length c) 16)) (dec-below (Fine c) (fine c) (length c))
+decide_lawful c = go (dec_both (dec_le 2 (length c)) (dec_le (length c) 16)) (dec_below (Fine c) (fine c) (length c))
   where
     go : Dec ((2 ≤ length c) × (length c ≤ 16)) → Dec ((k : ℕ) → k < length c → Fine c k) → Dec (LawfulCurve c)
     go (no n) d = no (λ L. n (L.least, L.most))

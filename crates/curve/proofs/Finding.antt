@@ -3,8 +3,8 @@ use Rattle.std.proofs.Common.{◌≡◌, ℕ, ◌+◌, ◌-◌, ◌<◌, ◌≤�
 use native.Mathlib.Decide.{ℕ_discrete}
 use Rattle.curve.specs.Answers.{HoldsAt, Found, Lawfully}
 use Rattle.curve.specs.Curves.{Curve, point, pair, points, flow_between, Between}
-use Rattle.curve.proofs.Neighbours.{any_pair, flow-there, flow-covered}
-use Rattle.curve.proofs.Points.{point_at, points-enough, length-points, length-points_flows}
+use Rattle.curve.proofs.Neighbours.{any_pair, flow_there, flow_covered}
+use Rattle.curve.proofs.Points.{point_at, points_enough, length-points, length_points_flows}
 
 pub record Answered (c : Curve) (s : ℤ) (q : ℕ) : Type 0 where
   pub first : Found c s (Some q)
@@ -27,7 +27,7 @@ module _ (ss : List ℤ) (qs : List ℕ) (s : ℤ) where
 
     holds_between : HoldsAt ss s i → Between (points ss qs) (i - 1) s
     holds_between (a, b) =
-        let n = points-enough ss qs (i + 1) (omega arith) (omega arith) in
+        let n = points_enough ss qs (i + 1) (omega arith) (omega arith) in
         record {
           neighbour = omega (arith, n, back);
           from = subst (λ p. p.stage ≤ℤ s) (sym low) a;
@@ -54,12 +54,12 @@ module _ (ss : List ℤ) (qs : List ℕ) (s : ℤ) where
         let v : q ≡ flow_between (point (points ss qs) (i - 1)) (point (points ss qs) ((i - 1) + 1)) s = e ∙ sym (ap₂ (λ x y. flow_between x y s) low high) in
         record {
           first = record { place = i - 1; holds = b; first = λ j l. below j (omega arith); value = v };
-          lawful = λ L. (flow-covered (points ss qs) L s q (i - 1, b, v), λ m d. v ∙ any_pair (points ss qs) L (i - 1) m s b d);
+          lawful = λ L. (flow_covered (points ss qs) L s q (i - 1, b, v), λ m d. v ∙ any_pair (points ss qs) L (i - 1) m s b d);
         }
 
   -- there is none left to look at
   pub none_all : (i : ℕ) → min (length ss) (length qs) ≤ i → NoneBelow i → (j : ℕ) → Between (points ss qs) j s → ⊥
-  none_all i h below j b = below j (omega (arith, b.neighbour, length-points ss qs, length-points_flows ss qs)) b
+  none_all i h below j b = below j (omega (arith, b.neighbour, length-points ss qs, length_points_flows ss qs)) b
 
   pub not_covered : ((j : ℕ) → Between (points ss qs) j s → ⊥) → Lawfully (points ss qs) s None
-  not_covered none L c = let (q, (k, b, e)) = flow-there (points ss qs) L s c in none k b
+  not_covered none L c = let (q, (k, b, e)) = flow_there (points ss qs) L s c in none k b

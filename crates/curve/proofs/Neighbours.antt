@@ -49,8 +49,8 @@ module _ (c : Curve) (L : LawfulCurve c) where
       go (no a) (yes l) = sym (meet k j s q p l)
       go (no a) (no b) = let e : j ≡ k = omega (arith, a, b) in ap (λ m. flow_between (point c m) (point c (m + 1)) s) e
 
-  pub flow-one : (s : ℤ) (q r : ℕ) → FlowAt c s q → FlowAt c s r → q ≡ r
-  flow-one s q r (j, b, e) (k, d, f) = e ∙ pair_one j k s b d ∙ sym f
+  pub flow_one : (s : ℤ) (q r : ℕ) → FlowAt c s q → FlowAt c s r → q ≡ r
+  flow_one s q r (j, b, e) (k, d, f) = e ∙ pair_one j k s b d ∙ sym f
 
   -- the pair that holds a stage, looked for among the first m points
   found : (s : ℤ) → (point c 0).stage ≤ℤ s → (m : ℕ) → m + 1 < length c → (s ≤ℤ (point c (m + 1)).stage) → (k : ℕ) × Between c k s
@@ -67,14 +67,14 @@ module _ (c : Curve) (L : LawfulCurve c) where
         },
       ))
 
-  pub flow-there : (s : ℤ) → Covered c s → (q : ℕ) × FlowAt c s q
-  flow-there s (low, high) =
+  pub flow_there : (s : ℤ) → Covered c s → (q : ℕ) × FlowAt c s q
+  flow_there s (low, high) =
       let n : length c - 1 ≡ (length c - 2) + 1 = omega (arith, L.least) in
       let (k, b) = found s low (length c - 2) (omega (arith, L.least)) (subst (λ x. s ≤ℤ (point c x).stage) n high) in
       (flow_between (point c k) (point c (k + 1)) s, (k, b, refl))
 
-  pub flow-covered : (s : ℤ) (q : ℕ) → FlowAt c s q → Covered c s
-  flow-covered s q (k, b, e) =
+  pub flow_covered : (s : ℤ) (q : ℕ) → FlowAt c s q → Covered c s
+  flow_covered s q (k, b, e) =
       let lo = higher 0 k (omega arith) (omega (arith, b.neighbour)) in
       let hi = higher (k + 1) (length c - 1) (omega (arith, b.neighbour)) (omega (arith, b.neighbour)) in
       (omega (arith, ints, lo, b.from), omega (arith, ints, hi, b.to))
@@ -82,8 +82,8 @@ module _ (c : Curve) (L : LawfulCurve c) where
 pub any_pair : AnyPair
 any_pair c L j k s p q = pair_one c L j k s p q
 
-pub flows-within : FlowsWithin
-flows-within c L s = (flow-there c L s, flow-covered c L s)
+pub flows_within : FlowsWithin
+flows_within c L s = (flow_there c L s, flow_covered c L s)
 
 pub flows_between : FlowsBetween
 flows_between c L k s b = between_flows (point c k) (point c (k + 1)) s b.from b.to (L.never_falls k b.neighbour)

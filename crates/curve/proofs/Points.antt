@@ -9,17 +9,17 @@ length-points [] qs = omega arith
 length-points (s ∷ ss) [] = omega arith
 length-points (s ∷ ss) (q ∷ qs) = omega (arith, length-points ss qs)
 
-pub length-points_flows : (ss : List ℤ) (qs : List ℕ) → length (points ss qs) ≤ length qs
-length-points_flows [] qs = omega arith
-length-points_flows (s ∷ ss) [] = omega arith
-length-points_flows (s ∷ ss) (q ∷ qs) = omega (arith, length-points_flows ss qs)
+pub length_points_flows : (ss : List ℤ) (qs : List ℕ) → length (points ss qs) ≤ length qs
+length_points_flows [] qs = omega arith
+length_points_flows (s ∷ ss) [] = omega arith
+length_points_flows (s ∷ ss) (q ∷ qs) = omega (arith, length_points_flows ss qs)
 
 -- as many points as the shorter list has
-pub points-enough : (ss : List ℤ) (qs : List ℕ) (n : ℕ) → n ≤ length ss → n ≤ length qs → n ≤ length (points ss qs)
-points-enough ss qs zero h k = omega arith
-points-enough [] qs (suc n) h k = absurd (omega arith)
-points-enough (s ∷ ss) [] (suc n) h k = absurd (omega arith)
-points-enough (s ∷ ss) (q ∷ qs) (suc n) h k = omega (arith, points-enough ss qs n (omega arith) (omega arith))
+pub points_enough : (ss : List ℤ) (qs : List ℕ) (n : ℕ) → n ≤ length ss → n ≤ length qs → n ≤ length (points ss qs)
+points_enough ss qs zero h k = omega arith
+points_enough [] qs (suc n) h k = absurd (omega arith)
+points_enough (s ∷ ss) [] (suc n) h k = absurd (omega arith)
+points_enough (s ∷ ss) (q ∷ qs) (suc n) h k = omega (arith, points_enough ss qs n (omega arith) (omega arith))
 
 pub point_at : (ss : List ℤ) (qs : List ℕ) (k : ℕ) → k < length ss → k < length qs → point (points ss qs) k ≡ pair ss qs k
 point_at [] qs k h l = absurd (omega arith)
@@ -35,7 +35,7 @@ StepOf p q = Step p.stage p.flow q.stage q.flow
 
 module _ (ss : List ℤ) (qs : List ℕ) (same : length ss ≡ length qs) where
   pub enough : length (points ss qs) ≡ length ss
-  enough = omega (arith, length-points ss qs, points-enough ss qs (length ss) (omega arith) (omega arith))
+  enough = omega (arith, length-points ss qs, points_enough ss qs (length ss) (omega arith) (omega arith))
 
   pub steps_of : LawfulCurve (points ss qs) → (k : ℕ) → k + 1 < length ss → StepAt ss qs k
   steps_of L k h =
@@ -52,8 +52,8 @@ module _ (ss : List ℤ) (qs : List ℕ) (same : length ss ≡ length qs) where
     step_at k h = subst₂ StepOf (sym (point_at ss qs k (omega arith) (omega arith))) (sym (point_at ss qs (k + 1) h (omega arith))) (steps k h)
 
     -- a point is the first of a step, or the second of one
-    in_range_lem : (k : ℕ) → k < length ss → InRange (point (points ss qs) k).stage (point (points ss qs) k).flow
-    in_range_lem k h = go (dec_lt (k + 1) (length ss))
+    each_in_range : (k : ℕ) → k < length ss → InRange (point (points ss qs) k).stage (point (points ss qs) k).flow
+    each_in_range k h = go (dec_lt (k + 1) (length ss))
       where
         go : Dec (k + 1 < length ss) → InRange (point (points ss qs) k).stage (point (points ss qs) k).flow
         go (yes l) = (step_at k l).0
@@ -61,27 +61,27 @@ module _ (ss : List ℤ) (qs : List ℕ) (same : length ss ≡ length qs) where
             let e : (k - 1) + 1 ≡ k = omega (arith, d) in
             subst (λ j. InRange (point (points ss qs) j).stage (point (points ss qs) j).flow) e (step_at (k - 1) (omega (arith, d))).1
 
-    pub curve_of_lem : length ss ≤ 16 → LawfulCurve (points ss qs)
-    curve_of_lem most =
+    pub lawful_points : length ss ≤ 16 → LawfulCurve (points ss qs)
+    lawful_points most =
         let n = enough in
         record {
           least = omega arith;
           most = omega arith;
-          low = λ k h. (in_range_lem k (omega arith)).0;
-          high = λ k h. (in_range_lem k (omega arith)).1;
-          flows = λ k h. (in_range_lem k (omega arith)).2;
+          low = λ k h. (each_in_range k (omega arith)).0;
+          high = λ k h. (each_in_range k (omega arith)).1;
+          flows = λ k h. (each_in_range k (omega arith)).2;
           rises = λ k h. (step_at k (omega arith)).2;
           never_falls = λ k h. (step_at k (omega arith)).3;
         }
 
 -- what a lawful curve says of its lists
-pub makes-size : (ss : List ℤ) (qs : List ℕ) → Makes ss qs → (length ss ≡ length qs) × (2 ≤ length ss) × (length ss ≤ 16)
-makes-size ss qs (same, L) = let n = enough ss qs same in (same, omega (arith, L.least), omega (arith, L.most))
+pub makes_size : (ss : List ℤ) (qs : List ℕ) → Makes ss qs → (length ss ≡ length qs) × (2 ≤ length ss) × (length ss ≤ 16)
+makes_size ss qs (same, L) = let n = enough ss qs same in (same, omega (arith, L.least), omega (arith, L.most))
 
 -- one more step holds
-pub steps-more : (ss : List ℤ) (qs : List ℕ) (i : ℕ) → 1 ≤ i → ((k : ℕ) → k + 1 < i → StepAt ss qs k)
+pub steps_more : (ss : List ℤ) (qs : List ℕ) (i : ℕ) → 1 ≤ i → ((k : ℕ) → k + 1 < i → StepAt ss qs k)
     → Step (get_or ss (i - 1) (pos 0)) (get_or qs (i - 1) 0) (get_or ss i (pos 0)) (get_or qs i 0) → (k : ℕ) → k + 1 < i + 1 → StepAt ss qs k
-steps-more ss qs i one below now k h = go (ℕ_discrete (k + 1) i)
+steps_more ss qs i one below now k h = go (ℕ_discrete (k + 1) i)
   where
     go : Dec (k + 1 ≡ i) → StepAt ss qs k
     go (yes e) =

@@ -18,5 +18,5 @@ FlowsBetween = (c : Curve) → LawfulCurve c → (k : ℕ) (s : ℤ) → Between
 
 pub record CurveLaws : Type 0 where
   pub any_pair : AnyPair
-  pub flows-within : FlowsWithin
+  pub flows_within : FlowsWithin
   pub flows_between : FlowsBetween

@@ -43,9 +43,9 @@ pub unspelt_length : (n : ℕ) (ds : List ℕ) → (length ds ≡ 2 * n → ⊥)
 unspelt_length n ds d bs h e s = d (sym (ap length s) ∙ length-spelled bs ∙ ap (λ m. 2 * m) e)
 
 -- one byte's worth of digits, at the places 2i and 2i + 1
-two-more : (ds : List ℕ) (i : ℕ) → 2 * i + 1 < length ds
+two_more : (ds : List ℕ) (i : ℕ) → 2 * i + 1 < length ds
     → take (2 * (i + 1)) ds ≡ take (2 * i) ds ++ get_or ds (2 * i) 0 ∷ get_or ds (2 * i + 1) 0 ∷ []
-two-more ds i h =
+two_more ds i h =
     let e : 2 * (i + 1) ≡ (2 * i + 1) + 1 = omega arith in
     ap (λ n. take n ds) e ∙ take_more ds (2 * i + 1) 0 h
     ∙ ap (λ xs. xs ++ get_or ds (2 * i + 1) 0 ∷ []) (take_more ds (2 * i) 0 (omega arith)) ∙ append_assoc (take (2 * i) ds) _ _
@@ -67,7 +67,7 @@ read_more ds bs i v all n h e s =
     ap spelled (take_more_set bs i v h) ∙ spelled-append (take i bs) (v ∷ []) ∙ ap (λ xs. xs ++ spelled (v ∷ [])) s
     ∙ ap (λ x. take (2 * i) ds ++ spelled (x ∷ [])) e
     ∙ ap (λ xs. take (2 * i) ds ++ xs) (byte_back (get_or ds (2 * i) 0) (get_or ds (2 * i + 1) 0) (all (2 * i) (omega arith)) (all (2 * i + 1) (omega arith)))
-    ∙ sym (two-more ds i (omega arith))
+    ∙ sym (two_more ds i (omega arith))
 
 pub bytes-more : (bs : List ℕ) (i v : ℕ) → i < length bs → v < 256 → Bytes (take i bs) → Bytes (take (i + 1) (set bs i v))
 bytes-more bs i v h k b = subst Bytes (sym (take_more_set bs i v h)) (All-push (λ x. x < 256) (take i bs) v b k)
@@ -109,15 +109,15 @@ unspelled [] = []
 unspelled (c ∷ []) = []
 unspelled (c ∷ d ∷ ds) = (worth_of c * 16 + worth_of d) ∷ unspelled ds
 
-unspelled-spelled : (bs : List ℕ) → Bytes bs → unspelled (spelled bs) ≡ bs
+unspelled_spelled : (bs : List ℕ) → Bytes bs → unspelled (spelled bs) ≡ bs
 unfolding spelled unspelled
-unspelled-spelled [] h = refl
-unspelled-spelled (b ∷ bs) h =
+unspelled_spelled [] h = refl
+unspelled_spelled (b ∷ bs) h =
     let p : b / 16 < 16 = omega (arith, h.0) in
     let q : b % 16 < 16 = omega arith in
     let e : worth_of (digit_of (b / 16)) * 16 + worth_of (digit_of (b % 16)) ≡ b = omega (arith, worth_back (b / 16) p, worth_back (b % 16) q) in
-    ap (λ x. x ∷ unspelled (spelled bs)) e ∙ ap (λ xs. b ∷ xs) (unspelled-spelled bs h.1)
+    ap (λ x. x ∷ unspelled (spelled bs)) e ∙ ap (λ xs. b ∷ xs) (unspelled_spelled bs h.1)
 
 -- bytes that are spelled alike are the same
-pub spelled-one : (xs ys : List ℕ) → Bytes xs → Bytes ys → spelled xs ≡ spelled ys → xs ≡ ys
-spelled-one xs ys h k e = sym (unspelled-spelled xs h) ∙ ap unspelled e ∙ unspelled-spelled ys k
+pub spelled_one : (xs ys : List ℕ) → Bytes xs → Bytes ys → spelled xs ≡ spelled ys → xs ≡ ys
+spelled_one xs ys h k e = sym (unspelled_spelled xs h) ∙ ap unspelled e ∙ unspelled_spelled ys k

@@ -58,20 +58,20 @@ byte_at [] i p = omega arith
 byte_at (x ∷ xs) zero p = p.0
 byte_at (x ∷ xs) (suc i) p = byte_at xs i p.1
 
-cut-sound : (n : ℕ) (xs : List ℕ) → Bytes xs → AllByRecursion Sound (cut n xs)
-cut-sound zero xs p = tt
-cut-sound (suc n) xs p =
+cut_sound : (n : ℕ) (xs : List ℕ) → Bytes xs → AllByRecursion Sound (cut n xs)
+cut_sound zero xs p = tt
+cut_sound (suc n) xs p =
     let at : (i : ℕ) → get_or xs i 0 < 256 = λ i. byte_at xs i p in (
       (word_low _ _ _ _ (at 0) (at 1) (at 2) (at 3), word_low _ _ _ _ (at 4) (at 5) (at 6) (at 7)),
-      cut-sound n (drop 8 xs) (All-drop _ 8 xs p),
+      cut_sound n (drop 8 xs) (All-drop _ 8 xs p),
     )
 
-pub blocks-sound : (xs : List ℕ) → Bytes xs → AllByRecursion Sound (blocks xs)
-blocks-sound xs p = cut-sound (length xs / 8) xs p
+pub blocks_sound : (xs : List ℕ) → Bytes xs → AllByRecursion Sound (blocks xs)
+blocks_sound xs p = cut_sound (length xs / 8) xs p
 
-pub bytes-proper : (bs : List Block) → Bytes (bytes bs)
-bytes-proper [] = tt
-bytes-proper (b ∷ bs) = (omega arith, (omega arith, (omega arith, (omega arith, (omega arith, (omega arith, (omega arith, (omega arith, bytes-proper bs))))))))
+pub bytes_proper : (bs : List Block) → Bytes (bytes bs)
+bytes_proper [] = tt
+bytes_proper (b ∷ bs) = (omega arith, (omega arith, (omega arith, (omega arith, (omega arith, (omega arith, (omega arith, (omega arith, bytes_proper bs))))))))
 
 pub length-bytes : (bs : List Block) → length (bytes bs) ≡ 8 * length bs
 length-bytes [] = refl
@@ -89,15 +89,15 @@ xor_sound a b p q = (xor_lt 32 _ _ p.0 q.0, xor_lt 32 _ _ p.1 q.1)
 
 -- g takes back what f does, one block at a time, and both chain on alike
 pub record Undoes (f g : Block → Block → Step) : Type 0 where
-  pub out-sound : (s t : Block) → Sound s → Sound t → Sound (f s t).out
+  pub out_sound : (s t : Block) → Sound s → Sound t → Sound (f s t).out
   pub chain_sound : (s t : Block) → Sound s → Sound t → Sound (f s t).chain
   pub back : (s t : Block) → Sound s → Sound t → (g s (f s t).out).out ≡ t
   pub along : (s t : Block) → Sound s → Sound t → (g s (f s t).out).chain ≡ (f s t).chain
 
 module _ {f g : Block → Block → Step} (u : Undoes f g) where
-  pub outs-sound : (s : Block) (ts : List Block) → Sound s → AllByRecursion Sound ts → AllByRecursion Sound (outs f s ts)
-  outs-sound s [] p q = tt
-  outs-sound s (t ∷ ts) p q = (u.out-sound s t p q.0, outs-sound (f s t).chain ts (u.chain_sound s t p q.0) q.1)
+  pub outs_sound : (s : Block) (ts : List Block) → Sound s → AllByRecursion Sound ts → AllByRecursion Sound (outs f s ts)
+  outs_sound s [] p q = tt
+  outs_sound s (t ∷ ts) p q = (u.out_sound s t p q.0, outs_sound (f s t).chain ts (u.chain_sound s t p q.0) q.1)
 
   pub outs_back : (s : Block) (ts : List Block) → Sound s → AllByRecursion Sound ts → outs g s (outs f s ts) ≡ ts
   outs_back s [] p q = refl
@@ -107,12 +107,12 @@ module _ {f g : Block → Block → Step} (u : Undoes f g) where
       ∙ ap (λ (b : Block). b ∷ outs g next (outs f next ts)) (u.back s t p q.0)
       ∙ ap (λ (l : List Block). t ∷ l) (outs_back next ts (u.chain_sound s t p q.0) q.1)
 
-  pub after-back : (s : Block) (ts : List Block) → Sound s → AllByRecursion Sound ts → after g s (outs f s ts) ≡ after f s ts
-  after-back s [] p q = refl
-  after-back s (t ∷ ts) p q =
+  pub after_back : (s : Block) (ts : List Block) → Sound s → AllByRecursion Sound ts → after g s (outs f s ts) ≡ after f s ts
+  after_back s [] p q = refl
+  after_back s (t ∷ ts) p q =
       let next = (f s t).chain in
       ap (λ (c : Block). after g c (outs f next ts)) (u.along s t p q.0)
-      ∙ after-back next ts (u.chain_sound s t p q.0) q.1
+      ∙ after_back next ts (u.chain_sound s t p q.0) q.1
 
 pub length-outs : (f : Block → Block → Step) (s : Block) (ts : List Block) → length (outs f s ts) ≡ length ts
 length-outs f s [] = refl
@@ -122,26 +122,26 @@ module _ {E D : Block → Block} (k : Inverse E D) where
   -- the text enciphered, and back
   pub undone : (m : Mode) → Undoes (forward m E) (backward m E D)
   undone Ecb = record {
-    out-sound = λ s t p q. k.enc-sound t q;
+    out_sound = λ s t p q. k.enc_sound t q;
     chain_sound = λ s t p q. p;
-    back = λ s t p q. k.dec-enc t q;
+    back = λ s t p q. k.dec_enc t q;
     along = λ s t p q. refl;
   }
   undone Cbc = record {
-    out-sound = λ s t p q. k.enc-sound _ (xor_sound t s q p);
-    chain_sound = λ s t p q. k.enc-sound _ (xor_sound t s q p);
-    back = λ s t p q. ap (λ (b : Block). xor b s) (k.dec-enc (xor t s) (xor_sound t s q p)) ∙ xor_twice t s;
+    out_sound = λ s t p q. k.enc_sound _ (xor_sound t s q p);
+    chain_sound = λ s t p q. k.enc_sound _ (xor_sound t s q p);
+    back = λ s t p q. ap (λ (b : Block). xor b s) (k.dec_enc (xor t s) (xor_sound t s q p)) ∙ xor_twice t s;
     along = λ s t p q. refl;
   }
   undone Cfb = record {
-    out-sound = λ s t p q. xor_sound t _ q (k.enc-sound s p);
-    chain_sound = λ s t p q. xor_sound t _ q (k.enc-sound s p);
+    out_sound = λ s t p q. xor_sound t _ q (k.enc_sound s p);
+    chain_sound = λ s t p q. xor_sound t _ q (k.enc_sound s p);
     back = λ s t p q. xor_twice t (E s);
     along = λ s t p q. refl;
   }
   undone Ofb = record {
-    out-sound = λ s t p q. xor_sound t _ q (k.enc-sound s p);
-    chain_sound = λ s t p q. k.enc-sound s p;
+    out_sound = λ s t p q. xor_sound t _ q (k.enc_sound s p);
+    chain_sound = λ s t p q. k.enc_sound s p;
     back = λ s t p q. xor_twice t (E s);
     along = λ s t p q. refl;
   }
@@ -149,56 +149,56 @@ module _ {E D : Block → Block} (k : Inverse E D) where
   -- and the cipher blocks deciphered, and forth
   pub redone : (m : Mode) → Undoes (backward m E D) (forward m E)
   redone Ecb = record {
-    out-sound = λ s t p q. k.dec-sound t q;
+    out_sound = λ s t p q. k.dec_sound t q;
     chain_sound = λ s t p q. p;
-    back = λ s t p q. k.enc-dec t q;
+    back = λ s t p q. k.enc_dec t q;
     along = λ s t p q. refl;
   }
   redone Cbc = record {
-    out-sound = λ s t p q. xor_sound _ s (k.dec-sound t q) p;
+    out_sound = λ s t p q. xor_sound _ s (k.dec_sound t q) p;
     chain_sound = λ s t p q. q;
-    back = λ s t p q. ap E (xor_twice (D t) s) ∙ k.enc-dec t q;
-    along = λ s t p q. ap E (xor_twice (D t) s) ∙ k.enc-dec t q;
+    back = λ s t p q. ap E (xor_twice (D t) s) ∙ k.enc_dec t q;
+    along = λ s t p q. ap E (xor_twice (D t) s) ∙ k.enc_dec t q;
   }
   redone Cfb = record {
-    out-sound = λ s t p q. xor_sound t _ q (k.enc-sound s p);
+    out_sound = λ s t p q. xor_sound t _ q (k.enc_sound s p);
     chain_sound = λ s t p q. q;
     back = λ s t p q. xor_twice t (E s);
     along = λ s t p q. xor_twice t (E s);
   }
   redone Ofb = record {
-    out-sound = λ s t p q. xor_sound t _ q (k.enc-sound s p);
-    chain_sound = λ s t p q. k.enc-sound s p;
+    out_sound = λ s t p q. xor_sound t _ q (k.enc_sound s p);
+    chain_sound = λ s t p q. k.enc_sound s p;
     back = λ s t p q. xor_twice t (E s);
     along = λ s t p q. refl;
   }
 
   -- what deciphering leaves is the one text
-  pub one-text : (m : Mode) (s : Block) (given text : List ℕ) → Sound s → Bytes given → Whole given → text ≡ bytes (outs (backward m E D) s (blocks given)) → OneText m E s given text
-  one-text m s given text p q w e =
+  pub one_text : (m : Mode) (s : Block) (given text : List ℕ) → Sound s → Bytes given → Whole given → text ≡ bytes (outs (backward m E D) s (blocks given)) → OneText m E s given text
+  one_text m s given text p q w e =
       let ts = outs (backward m E D) s (blocks given) in
-      let sound : AllByRecursion Sound ts = outs-sound (redone m) s (blocks given) p (blocks-sound given q) in
+      let sound : AllByRecursion Sound ts = outs_sound (redone m) s (blocks given) p (blocks_sound given q) in
       let same : blocks text ≡ ts = ap blocks e ∙ blocks-bytes ts sound in
       let long : length given ≡ 8 * length (blocks given) = sym (ap length (bytes-blocks given q w.0)) ∙ length-bytes (blocks given) in
       let size : length text ≡ length given = ap length e ∙ length-bytes ts ∙ ap (λ n. 8 * n) (length-outs (backward m E D) s (blocks given)) ∙ sym long in
       record {
-        proper = subst Bytes (sym e) (bytes-proper ts);
+        proper = subst Bytes (sym e) (bytes_proper ts);
         whole = (ap (λ n. n % 8) size ∙ w.0, omega (arith, w.1));
-        enciphers = ap (λ (l : List Block). bytes (outs (forward m E) s l)) same ∙ ap bytes (outs_back (redone m) s (blocks given) p (blocks-sound given q)) ∙ bytes-blocks given q w.0;
+        enciphers = ap (λ (l : List Block). bytes (outs (forward m E) s l)) same ∙ ap bytes (outs_back (redone m) s (blocks given) p (blocks_sound given q)) ∙ bytes-blocks given q w.0;
         only = λ other b v f.
             let os = blocks other in
             let cs = outs (forward m E) s os in
-            let osound = blocks-sound other b in
-            let given_is : blocks given ≡ cs = ap blocks (sym f) ∙ blocks-bytes cs (outs-sound (undone m) s os p osound) in
+            let osound = blocks_sound other b in
+            let given_is : blocks given ≡ cs = ap blocks (sym f) ∙ blocks-bytes cs (outs_sound (undone m) s os p osound) in
             sym (bytes-blocks other b v.0) ∙ ap bytes (sym (outs_back (undone m) s os p osound)) ∙ ap (λ (l : List Block). bytes (outs (backward m E D) s l)) (sym given_is) ∙ sym e;
       }
 
   pub goes_on : (m : Mode) (s : Block) (given text : List ℕ) → Sound s → Bytes given → text ≡ bytes (outs (backward m E D) s (blocks given)) → after (backward m E D) s (blocks given) ≡ following m E s text
   goes_on m s given text p q e =
       let ts = outs (backward m E D) s (blocks given) in
-      let sound : AllByRecursion Sound ts = outs-sound (redone m) s (blocks given) p (blocks-sound given q) in
+      let sound : AllByRecursion Sound ts = outs_sound (redone m) s (blocks given) p (blocks_sound given q) in
       let same : blocks text ≡ ts = ap blocks e ∙ blocks-bytes ts sound in
-      sym (after-back (redone m) s (blocks given) p (blocks-sound given q)) ∙ ap (after (forward m E) s) (sym same)
+      sym (after_back (redone m) s (blocks given) p (blocks_sound given q)) ∙ ap (after (forward m E) s) (sym same)
 
 pub length-enciphered : (m : Mode) (E : Block → Block) (s : Block) (xs : List ℕ) → Bytes xs → Whole xs → length (enciphered m E s xs) ≡ length xs
 length-enciphered m E s xs b w =
@@ -206,14 +206,14 @@ length-enciphered m E s xs b w =
     ∙ sym (length-bytes (blocks xs)) ∙ ap length (bytes-blocks xs b w.0)
 
 -- a text is the one that enciphers to what it was enciphered to
-pub one-before : {E D : Block → Block} (k : Inverse E D) (m : Mode) (s : Block) (old new : List ℕ) → Sound s → Bytes old → Whole old
+pub one_before : {E D : Block → Block} (k : Inverse E D) (m : Mode) (s : Block) (old new : List ℕ) → Sound s → Bytes old → Whole old
     → new ≡ enciphered m E s old → OneText m E s new old
-one-before {E} {D} k m s old new p b w e =
+one_before {E} {D} k m s old new p b w e =
     let back : (text : List ℕ) → Bytes text → Whole text → bytes (outs (backward m E D) s (blocks (enciphered m E s text))) ≡ text
     = λ text c v.
     let cs = outs (forward m E) s (blocks text) in
-    let sound = blocks-sound text c in
-    ap (λ (l : List Block). bytes (outs (backward m E D) s l)) (blocks-bytes cs (outs-sound (undone k m) s (blocks text) p sound))
+    let sound = blocks_sound text c in
+    ap (λ (l : List Block). bytes (outs (backward m E D) s l)) (blocks-bytes cs (outs_sound (undone k m) s (blocks text) p sound))
     ∙ ap bytes (outs_back (undone k m) s (blocks text) p sound) ∙ bytes-blocks text c v.0 in
     record {
       proper = b;

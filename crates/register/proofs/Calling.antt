@@ -19,9 +19,9 @@ use Rattle.register.specs.Filling.{Filled}
 use Rattle.register.specs.Meaning.{standing_of, standing_at, meaning, answer_of, Occupied, Carries}
 use Rattle.register.specs.Places.{bears, curve_of, held, Nowhere, blank}
 use Rattle.register.specs.declared.place.PlaceState.TheVariants.{InForce}
-use Rattle.register.proofs.Filling.{within-covered, covered-within}
-use Rattle.register.proofs.Held.{nowhere-held}
-use Rattle.register.proofs.Laws.{held_at, placed-here, placed-others}
+use Rattle.register.proofs.Filling.{within_covered, covered_within}
+use Rattle.register.proofs.Held.{nowhere_held}
+use Rattle.register.proofs.Laws.{held_at, placed_here, placed_others}
 use Rattle.register.proofs.Uses.{full, room}
 
 -- ---- a call carries every run on
@@ -46,7 +46,7 @@ stands_in_force r n i m b = stands_so r n _ m (held_at r.table.places i n (r.apa
 
 -- where no place has the number, none is in force with it
 pub nowhere : (r : Core) (n : ℕ) → Nowhere r.table.places n → held r.table.places n ≡ None
-nowhere r n h = nowhere-held r.table.places n r.long h
+nowhere r n h = nowhere_held r.table.places n r.long h
 
 -- an unmarked number is not withdrawn
 not_withdrawn : (r : Core) (n : ℕ) → get_or r.withdrawn n false ≡ false → (meaning r).standing n ≡ Some withdrawn → ⊥
@@ -58,25 +58,25 @@ not_withdrawn r n m h = go (held r.table.places n) (sym (stands_so r n _ m refl)
 
 -- ---- publish
 
-pub publish-refused : (r : Core) (n : ℕ) (ss : List ℤ) (qs : List ℕ) (e : Refusal) → PublishCause r n ss qs e → Publish n ss qs (meaning r) (refused (number_of e)) (meaning r)
-publish-refused r n ss qs NumberOutOfRange h = publish_1 h refl refl
-publish-refused r n ss qs Withdrawn (i, m) = publish_2 i (stands_marked r n m) refl refl
-publish-refused r n ss qs NoLawfulCurve (i, u, k) = publish_3 i (not_withdrawn r n u) k refl refl
-publish-refused r n ss qs AlreadyInForce (i, u, k, j, b) = publish_4 _ i (stands_in_force r n j u b) k refl refl
-publish-refused r n ss qs NoFreePlace (i, u, k, h, f) = publish_5 i (stands_so r n None u (nowhere r n h)) k (full r f) refl refl
-publish-refused r n ss qs NotInForce h = absurd h
-publish-refused r n ss qs StageOffCurve h = absurd h
-publish-refused r n ss qs ParcelLength h = absurd h
-publish-refused r n ss qs Header h = absurd h
-publish-refused r n ss qs Tag h = absurd h
-publish-refused r n ss qs TooShort h = absurd h
-publish-refused r n ss qs Padding h = absurd h
-publish-refused r n ss qs NoLawfulBundle h = absurd h
-publish-refused r n ss qs OtherPoints h = absurd h
-publish-refused r n ss qs SerialUsedUp h = absurd h
-publish-refused r n ss qs KeyLength h = absurd h
-publish-refused r n ss qs TextLength h = absurd h
-publish-refused r n ss qs Mode h = absurd h
+pub publish_refused : (r : Core) (n : ℕ) (ss : List ℤ) (qs : List ℕ) (e : Refusal) → PublishCause r n ss qs e → Publish n ss qs (meaning r) (refused (number_of e)) (meaning r)
+publish_refused r n ss qs NumberOutOfRange h = publish_1 h refl refl
+publish_refused r n ss qs Withdrawn (i, m) = publish_2 i (stands_marked r n m) refl refl
+publish_refused r n ss qs NoLawfulCurve (i, u, k) = publish_3 i (not_withdrawn r n u) k refl refl
+publish_refused r n ss qs AlreadyInForce (i, u, k, j, b) = publish_4 _ i (stands_in_force r n j u b) k refl refl
+publish_refused r n ss qs NoFreePlace (i, u, k, h, f) = publish_5 i (stands_so r n None u (nowhere r n h)) k (full r f) refl refl
+publish_refused r n ss qs NotInForce h = absurd h
+publish_refused r n ss qs StageOffCurve h = absurd h
+publish_refused r n ss qs ParcelLength h = absurd h
+publish_refused r n ss qs Header h = absurd h
+publish_refused r n ss qs Tag h = absurd h
+publish_refused r n ss qs TooShort h = absurd h
+publish_refused r n ss qs Padding h = absurd h
+publish_refused r n ss qs NoLawfulBundle h = absurd h
+publish_refused r n ss qs OtherPoints h = absurd h
+publish_refused r n ss qs SerialUsedUp h = absurd h
+publish_refused r n ss qs KeyLength h = absurd h
+publish_refused r n ss qs TextLength h = absurd h
+publish_refused r n ss qs Mode h = absurd h
 
 -- one number of the standings changes
 standing-put : (marks : List Bool) (ps qs : List Place) (n : ℕ) (c : Curve) → get_or marks n false ≡ false → held qs n ≡ Some c → ((m : ℕ) → (m ≡ n → ⊥) → held qs m ≡ held ps m)
@@ -99,21 +99,21 @@ module _ (r : Core) (n : ℕ) (ss : List ℤ) (qs : List ℕ) (i : ℕ) (p : Pla
   within = omega (arith, r.long, a.4)
 
   here : held ps n ≡ Some (points ss qs)
-  here = ap (λ l. held l n) e ∙ placed-here r.table.places i n p a.5 (nowhere r n a.3) own within ∙ ap Some drawn
+  here = ap (λ l. held l n) e ∙ placed_here r.table.places i n p a.5 (nowhere r n a.3) own within ∙ ap Some drawn
 
   others : (m : ℕ) → (m ≡ n → ⊥) → held ps m ≡ held r.table.places m
-  others m d = ap (λ l. held l m) e ∙ placed-others r.table.places i n p a.5 (nowhere r n a.3) own m d
+  others m d = ap (λ l. held l m) e ∙ placed_others r.table.places i n p a.5 (nowhere r n a.3) own m d
 
   after : places_now r r.withdrawn ps ≡ put n (in_force (points ss qs)) (meaning r)
   after =
       let f = fun_ext (standing-put r.withdrawn r.table.places ps n (points ss qs) a.1 here others) in
       λ j. record { station = r.station; serial = r.serial; standing = f j }
 
-  pub publish-done : Publish n ss qs (meaning r) accepted (places_now r r.withdrawn ps)
-  publish-done = published a.0 (stands_so r n None a.1 (nowhere r n a.3)) a.2 (room r i a.4 a.5) refl after
+  pub publish_done : Publish n ss qs (meaning r) accepted (places_now r r.withdrawn ps)
+  publish_done = published a.0 (stands_so r n None a.1 (nowhere r n a.3)) a.2 (room r i a.4 a.5) refl after
 
   pub occupied : Occupied r.table.places ps n (points ss qs)
-  occupied = record { spot = i; place = p; there = a.4; was_free = a.5; in_force_lem = own; curve = drawn; others = e }
+  occupied = record { spot = i; place = p; there = a.4; was_free = a.5; now_in_force = own; curve = drawn; others = e }
 
 -- ---- withdraw
 
@@ -132,34 +132,34 @@ standing_mark marks ps qs n l o m = go (ℕ_discrete m n)
         let same : standing_at (set marks n true) qs m ≡ standing_at marks ps m = ap₂ standing_of (get_or-set_other marks n m true false d) (o m d) in
         rw f same
 
-pub withdraw-done : (r : Core) (n : ℕ) (ps : List Place) (marks : List Bool) → marks ≡ set r.withdrawn n true → Number n → ((m : ℕ) → (m ≡ n → ⊥) → held ps m ≡ held r.table.places m) → Withdraw n (meaning r) accepted (places_now r marks ps)
-withdraw-done r n ps marks e i o =
+pub withdraw_done : (r : Core) (n : ℕ) (ps : List Place) (marks : List Bool) → marks ≡ set r.withdrawn n true → Number n → ((m : ℕ) → (m ≡ n → ⊥) → held ps m ≡ held r.table.places m) → Withdraw n (meaning r) accepted (places_now r marks ps)
+withdraw_done r n ps marks e i o =
     let f = ap (λ x. standing_at x ps) e ∙ fun_ext (standing_mark r.withdrawn r.table.places ps n (omega (arith, r.wide, i.1)) o) in
     marked i refl (λ j. record { station = r.station; serial = r.serial; standing = f j })
 
 -- ---- convert
 
-pub convert-refused : (r : Core) (n : ℕ) (st : List ℤ) (room : List ℕ) (e : Refusal) → ConvertCause r n (length st) (length room) e → Convert n st room (meaning r) (refused (number_of e)) room
-convert-refused r n st room NumberOutOfRange h = convert_1 h refl refl
-convert-refused r n st room Withdrawn (i, m) = convert_2 i (stands_marked r n m) refl refl
-convert-refused r n st room NotInForce (i, u, h) = convert_6 i (stands_so r n None u (nowhere r n h)) refl refl
-convert-refused r n st room TooShort (i, u, j, b, l) = convert_11 _ i (stands_in_force r n j u b) l refl refl
-convert-refused r n st room NoLawfulCurve h = absurd h
-convert-refused r n st room AlreadyInForce h = absurd h
-convert-refused r n st room NoFreePlace h = absurd h
-convert-refused r n st room StageOffCurve h = absurd h
-convert-refused r n st room ParcelLength h = absurd h
-convert-refused r n st room Header h = absurd h
-convert-refused r n st room Tag h = absurd h
-convert-refused r n st room Padding h = absurd h
-convert-refused r n st room NoLawfulBundle h = absurd h
-convert-refused r n st room OtherPoints h = absurd h
-convert-refused r n st room SerialUsedUp h = absurd h
-convert-refused r n st room KeyLength h = absurd h
-convert-refused r n st room TextLength h = absurd h
-convert-refused r n st room Mode h = absurd h
+pub convert_refused : (r : Core) (n : ℕ) (st : List ℤ) (room : List ℕ) (e : Refusal) → ConvertCause r n (length st) (length room) e → Convert n st room (meaning r) (refused (number_of e)) room
+convert_refused r n st room NumberOutOfRange h = convert_1 h refl refl
+convert_refused r n st room Withdrawn (i, m) = convert_2 i (stands_marked r n m) refl refl
+convert_refused r n st room NotInForce (i, u, h) = convert_6 i (stands_so r n None u (nowhere r n h)) refl refl
+convert_refused r n st room TooShort (i, u, j, b, l) = convert_11 _ i (stands_in_force r n j u b) l refl refl
+convert_refused r n st room NoLawfulCurve h = absurd h
+convert_refused r n st room AlreadyInForce h = absurd h
+convert_refused r n st room NoFreePlace h = absurd h
+convert_refused r n st room StageOffCurve h = absurd h
+convert_refused r n st room ParcelLength h = absurd h
+convert_refused r n st room Header h = absurd h
+convert_refused r n st room Tag h = absurd h
+convert_refused r n st room Padding h = absurd h
+convert_refused r n st room NoLawfulBundle h = absurd h
+convert_refused r n st room OtherPoints h = absurd h
+convert_refused r n st room SerialUsedUp h = absurd h
+convert_refused r n st room KeyLength h = absurd h
+convert_refused r n st room TextLength h = absurd h
+convert_refused r n st room Mode h = absurd h
 
-pub convert-filled : (r : Core) (n : ℕ) (ss : List ℤ) (qs : List ℕ) (st : List ℤ) (room lent : List ℕ) → Makes ss qs → Number n → (meaning r).standing n ≡ Some (in_force (points ss qs)) → length st ≤ length room
+pub convert_filled : (r : Core) (n : ℕ) (ss : List ℤ) (qs : List ℕ) (st : List ℤ) (room lent : List ℕ) → Makes ss qs → Number n → (meaning r).standing n ≡ Some (in_force (points ss qs)) → length st ≤ length room
     → (a : Result (Unit {0}) Refusal) → Filled ss qs st room lent a → Convert n st room (meaning r) (answer_of a) lent
-convert-filled r n ss qs st room lent m i h l (Ok u) (all, f) = converted (points ss qs) i h l (within-covered ss qs m st all) refl f
-convert-filled r n ss qs st room lent m i h l (Err e) (k, off, same) = convert_7 (points ss qs) i h l (λ a. off (covered-within ss qs m st a)) (ap refused k) same
+convert_filled r n ss qs st room lent m i h l (Ok u) (all, f) = converted (points ss qs) i h l (within_covered ss qs m st all) refl f
+convert_filled r n ss qs st room lent m i h l (Err e) (k, off, same) = convert_7 (points ss qs) i h l (λ a. off (covered_within ss qs m st a)) (ap refused k) same

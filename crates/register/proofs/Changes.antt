@@ -25,15 +25,15 @@ held-some [] i n b e = grind arith
 held-some (x ∷ xs) zero n b e = let h = head_not x xs n e in grind arith
 held-some (x ∷ xs) (suc i) n b e = held-some xs i n b (tail_none x xs n e)
 
-pub held-here : (ps : List Place) (i n : ℕ) (p : Place) → i < length ps → bears p.state n ≡ true → held ps n ≡ None → held (set ps i p) n ≡ Some (curve_of p)
-held-here [] i n p h b e = absurd (omega arith)
-held-here (x ∷ xs) zero n p h b e = rw b
-held-here (x ∷ xs) (suc i) n p h b e = rw (head_not x xs n e) (held-here xs i n p (omega arith) b (tail_none x xs n e))
+pub held_here : (ps : List Place) (i n : ℕ) (p : Place) → i < length ps → bears p.state n ≡ true → held ps n ≡ None → held (set ps i p) n ≡ Some (curve_of p)
+held_here [] i n p h b e = absurd (omega arith)
+held_here (x ∷ xs) zero n p h b e = rw b
+held_here (x ∷ xs) (suc i) n p h b e = rw (head_not x xs n e) (held_here xs i n p (omega arith) b (tail_none x xs n e))
 
-pub held-other : (ps : List Place) (i m : ℕ) (p : Place) → bears (get_or ps i blank).state m ≡ false → bears p.state m ≡ false → held (set ps i p) m ≡ held ps m
-held-other [] i m p b e = refl
-held-other (x ∷ xs) zero m p b e = rw (b, e)
-held-other (x ∷ xs) (suc i) m p b e = rw (held-other xs i m p b e)
+pub held_other : (ps : List Place) (i m : ℕ) (p : Place) → bears (get_or ps i blank).state m ≡ false → bears p.state m ≡ false → held (set ps i p) m ≡ held ps m
+held_other [] i m p b e = refl
+held_other (x ∷ xs) zero m p b e = rw (b, e)
+held_other (x ∷ xs) (suc i) m p b e = rw (held_other xs i m p b e)
 
 pub held_still_none : (ps : List Place) (i m : ℕ) (p : Place) → held ps m ≡ None → bears p.state m ≡ false → held (set ps i p) m ≡ None
 held_still_none [] i m p e b = refl
@@ -50,28 +50,28 @@ not_some o e = rw e
 pub once_tail : (x : Place) (xs : List Place) (n : ℕ) → bears x.state n ≡ true → once (x ∷ xs) n ≡ true → held xs n ≡ None
 once_tail x xs n b e = none_from (held xs n) (rw b at e)
 
-pub once-rest : (x : Place) (xs : List Place) (n : ℕ) → bears x.state n ≡ false → once (x ∷ xs) n ≡ true → once xs n ≡ true
-once-rest x xs n b e = rw b at e
+pub once_rest : (x : Place) (xs : List Place) (n : ℕ) → bears x.state n ≡ false → once (x ∷ xs) n ≡ true → once xs n ≡ true
+once_rest x xs n b e = rw b at e
 
 pub held_gone : (ps : List Place) (i n : ℕ) (p : Place) → once ps n ≡ true → bears (get_or ps i blank).state n ≡ true → bears p.state n ≡ false → held (set ps i p) n ≡ None
 held_gone [] i n p a b e = refl
 held_gone (x ∷ xs) zero n p a b e = rw e (once_tail x xs n b a)
-held_gone (x ∷ xs) (suc i) n p a b e = ⊎_elim (λ t. absurd (held-some xs i n b (once_tail x xs n t a))) (λ f. rw f (held_gone xs i n p (once-rest x xs n f a) b e)) (cases_Bool (bears x.state n))
+held_gone (x ∷ xs) (suc i) n p a b e = ⊎_elim (λ t. absurd (held-some xs i n b (once_tail x xs n t a))) (λ f. rw f (held_gone xs i n p (once_rest x xs n f a) b e)) (cases_Bool (bears x.state n))
 
 pub once-none : (ps : List Place) (n : ℕ) → held ps n ≡ None → once ps n ≡ true
 once-none [] n e = refl
 once-none (x ∷ xs) n e = rw (head_not x xs n e) (once-none xs n (tail_none x xs n e))
 
 -- a place that takes a number that was not in force
-pub once-here : (ps : List Place) (i n : ℕ) (p : Place) → held ps n ≡ None → once (set ps i p) n ≡ true
-once-here [] i n p e = refl
-once-here (x ∷ xs) zero n p e =
+pub once_here : (ps : List Place) (i n : ℕ) (p : Place) → held ps n ≡ None → once (set ps i p) n ≡ true
+once_here [] i n p e = refl
+once_here (x ∷ xs) zero n p e =
     ⊎_elim (λ t. rw t (not_some (held xs n) (tail_none x xs n e))) (λ f. rw f (once-none xs n (tail_none x xs n e))) (cases_Bool (bears p.state n))
-once-here (x ∷ xs) (suc i) n p e = rw (head_not x xs n e) (once-here xs i n p (tail_none x xs n e))
+once_here (x ∷ xs) (suc i) n p e = rw (head_not x xs n e) (once_here xs i n p (tail_none x xs n e))
 
 -- a place that does not bear the number, before or after or only after
-pub once-other : (ps : List Place) (i m : ℕ) (p : Place) → once ps m ≡ true → bears p.state m ≡ false → once (set ps i p) m ≡ true
-once-other [] i m p a b = refl
-once-other (x ∷ xs) zero m p a b = rw b (⊎_elim (λ t. once-none xs m (once_tail x xs m t a)) (λ f. once-rest x xs m f a) (cases_Bool (bears x.state m)))
-once-other (x ∷ xs) (suc i) m p a b =
-    ⊎_elim (λ t. rw t (not_some (held (set xs i p) m) (held_still_none xs i m p (once_tail x xs m t a) b))) (λ f. rw f (once-other xs i m p (once-rest x xs m f a) b)) (cases_Bool (bears x.state m))
+pub once_other : (ps : List Place) (i m : ℕ) (p : Place) → once ps m ≡ true → bears p.state m ≡ false → once (set ps i p) m ≡ true
+once_other [] i m p a b = refl
+once_other (x ∷ xs) zero m p a b = rw b (⊎_elim (λ t. once-none xs m (once_tail x xs m t a)) (λ f. once_rest x xs m f a) (cases_Bool (bears x.state m)))
+once_other (x ∷ xs) (suc i) m p a b =
+    ⊎_elim (λ t. rw t (not_some (held (set xs i p) m) (held_still_none xs i m p (once_tail x xs m t a) b))) (λ f. rw f (once_other xs i m p (once_rest x xs m f a) b)) (cases_Bool (bears x.state m))

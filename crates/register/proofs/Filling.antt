@@ -2,27 +2,27 @@
 use Rattle.std.proofs.Common.{◌≡◌, ℕ, ◌-◌, List, length, get_or, ℤ, pos, ◌≤ℤ◌, sym, ap, ◌∙◌, subst, arith}
 use Rattle.curve.specs.Answers.{FirstFlow}
 use Rattle.curve.specs.Curves.{Curve, point, points, Makes, FlowAt}
-use Rattle.curve.proofs.Points.{point_at, enough, makes-size}
+use Rattle.curve.proofs.Points.{point_at, enough, makes_size}
 use Rattle.rules.specs.Calls.{AllCovered}
 use Rattle.register.specs.Filling.{Within}
 
 module _ (ss : List ℤ) (qs : List ℕ) (m : Makes ss qs) where
-  first-stage : (point (points ss qs) 0).stage ≡ get_or ss 0 (pos 0)
-  first-stage = let s = makes-size ss qs m in ap (λ p. p.stage) (point_at ss qs 0 (omega arith) (omega arith))
+  first_stage : (point (points ss qs) 0).stage ≡ get_or ss 0 (pos 0)
+  first_stage = let s = makes_size ss qs m in ap (λ p. p.stage) (point_at ss qs 0 (omega arith) (omega arith))
 
-  last-stage : (point (points ss qs) (length (points ss qs) - 1)).stage ≡ get_or ss (length ss - 1) (pos 0)
-  last-stage =
-      let s = makes-size ss qs m in
+  last_stage : (point (points ss qs) (length (points ss qs) - 1)).stage ≡ get_or ss (length ss - 1) (pos 0)
+  last_stage =
+      let s = makes_size ss qs m in
       let n = enough ss qs m.0 in
       ap (λ k. (point (points ss qs) (k - 1)).stage) n ∙ ap (λ p. p.stage) (point_at ss qs (length ss - 1) (omega arith) (omega arith))
 
-  pub within-covered : (st : List ℤ) → Within ss st → AllCovered (points ss qs) st
-  within-covered st w k h =
-      (subst (λ x. x ≤ℤ get_or st k (pos 0)) (sym first-stage) (w k h).0, subst (λ x. get_or st k (pos 0) ≤ℤ x) (sym last-stage) (w k h).1)
+  pub within_covered : (st : List ℤ) → Within ss st → AllCovered (points ss qs) st
+  within_covered st w k h =
+      (subst (λ x. x ≤ℤ get_or st k (pos 0)) (sym first_stage) (w k h).0, subst (λ x. get_or st k (pos 0) ≤ℤ x) (sym last_stage) (w k h).1)
 
-  pub covered-within : (st : List ℤ) → AllCovered (points ss qs) st → Within ss st
-  covered-within st c k h =
-      (subst (λ x. x ≤ℤ get_or st k (pos 0)) first-stage (c k h).0, subst (λ x. get_or st k (pos 0) ≤ℤ x) last-stage (c k h).1)
+  pub covered_within : (st : List ℤ) → AllCovered (points ss qs) st → Within ss st
+  covered_within st c k h =
+      (subst (λ x. x ≤ℤ get_or st k (pos 0)) first_stage (c k h).0, subst (λ x. get_or st k (pos 0) ≤ℤ x) last_stage (c k h).1)
 
-pub first-is_flow : (c : Curve) (s : ℤ) (q : ℕ) → FirstFlow c s q → FlowAt c s q
-first-is_flow c s q f = (f.place, f.holds, f.value)
+pub first_is_flow : (c : Curve) (s : ℤ) (q : ℕ) → FirstFlow c s q → FlowAt c s q
+first_is_flow c s q f = (f.place, f.holds, f.value)

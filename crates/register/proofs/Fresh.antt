@@ -8,15 +8,15 @@ none-marked zero n = refl
 none-marked (suc k) zero = refl
 none-marked (suc k) (suc n) = none-marked k n
 
-pub none-long : (k : ℕ) (p : Place) → p.count ≤ 16 → (i : ℕ) → i < 32 → (get_or (replicate k p) i blank).count ≤ 16
-none-long zero p e i h = zero-le
-none-long (suc k) p e zero h = e
-none-long (suc k) p e (suc i) h = none-long k p e i (omega arith)
+pub none_long : (k : ℕ) (p : Place) → p.count ≤ 16 → (i : ℕ) → i < 32 → (get_or (replicate k p) i blank).count ≤ 16
+none_long zero p e i h = zero-le
+none_long (suc k) p e zero h = e
+none_long (suc k) p e (suc i) h = none_long k p e i (omega arith)
 
-pub none-level : (k : ℕ) (p : Place) → Level p → (i : ℕ) → i < 32 → Level (get_or (replicate k p) i blank)
-none-level zero p e i h = refl
-none-level (suc k) p e zero h = e
-none-level (suc k) p e (suc i) h = none-level k p e i (omega arith)
+pub none_level : (k : ℕ) (p : Place) → Level p → (i : ℕ) → i < 32 → Level (get_or (replicate k p) i blank)
+none_level zero p e i h = refl
+none_level (suc k) p e zero h = e
+none_level (suc k) p e (suc i) h = none_level k p e i (omega arith)
 
 pub none-held : (k n : ℕ) → held (replicate k unused) n ≡ None
 none-held zero n = refl

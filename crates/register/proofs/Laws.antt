@@ -9,7 +9,7 @@ use Rattle.register.specs.declared.place.PlaceState.{PlaceState}
 use Rattle.register.specs.declared.place.PlaceState.TheVariants.{Free, InForce}
 use Rattle.register.specs.Places.{held, bears, is_free_place, curve_of, blank, once, Level}
 use Rattle.register.specs.Soundness.{Sound}
-use Rattle.register.proofs.Changes.{held-some, held-here, held-other, held_gone, once-here, once-other, once_tail, once-rest}
+use Rattle.register.proofs.Changes.{held-some, held_here, held_other, held_gone, once_here, once_other, once_tail, once_rest}
 
 free_bears : (s : PlaceState) (m : ℕ) → is_free_place s ≡ true → bears s m ≡ false
 free_bears Free m e = refl
@@ -18,38 +18,38 @@ free_bears (InForce n) m e = grind arith
 bears_own : (s : PlaceState) (n : ℕ) → s ≡ InForce n → bears s n ≡ true
 bears_own s n e = rw e (eq-eqb n n refl)
 
-bears-other : (s : PlaceState) (n m : ℕ) → s ≡ InForce n → (m ≡ n → ⊥) → bears s m ≡ false
-bears-other s n m e h = rw e (ne_eqb n m (λ q. h (sym q)))
+bears_other : (s : PlaceState) (n m : ℕ) → s ≡ InForce n → (m ≡ n → ⊥) → bears s m ≡ false
+bears_other s n m e h = rw e (ne_eqb n m (λ q. h (sym q)))
 
 bears_free : (s : PlaceState) (m : ℕ) → s ≡ Free → bears s m ≡ false
 bears_free s m e = rw e
 
-pub few-set : (ps : List Place) (i : ℕ) (p : Place) → i < length ps → ((j : ℕ) → j < 32 → (get_or ps j blank).count ≤ 16) → p.count ≤ 16 → (j : ℕ) → j < 32 → (get_or (set ps i p) j blank).count ≤ 16
-few-set ps i p h f k j l =
+pub few_set : (ps : List Place) (i : ℕ) (p : Place) → i < length ps → ((j : ℕ) → j < 32 → (get_or ps j blank).count ≤ 16) → p.count ≤ 16 → (j : ℕ) → j < 32 → (get_or (set ps i p) j blank).count ≤ 16
+few_set ps i p h f k j l =
     ⊎_elim (λ e. rw e (rw (get_or-set_same ps i p blank h) k)) (λ ne. rw (get_or-set_other ps i j p blank ne) (f j l)) (cases_eq j i)
 
 module _ (ps : List Place) (i n : ℕ) (p : Place) (free : is_free_place (get_or ps i blank).state ≡ true) (none : held ps n ≡ None) (own : p.state ≡ InForce n) where
-  pub placed-here : i < length ps → held (set ps i p) n ≡ Some (curve_of p)
-  placed-here h = held-here ps i n p h (bears_own p.state n own) none
+  pub placed_here : i < length ps → held (set ps i p) n ≡ Some (curve_of p)
+  placed_here h = held_here ps i n p h (bears_own p.state n own) none
 
-  pub placed-others : (m : ℕ) → (m ≡ n → ⊥) → held (set ps i p) m ≡ held ps m
-  placed-others m ne = held-other ps i m p (free_bears _ m free) (bears-other p.state n m own ne)
+  pub placed_others : (m : ℕ) → (m ≡ n → ⊥) → held (set ps i p) m ≡ held ps m
+  placed_others m ne = held_other ps i m p (free_bears _ m free) (bears_other p.state n m own ne)
 
-  pub placed-once : ((m : ℕ) → once ps m ≡ true) → (m : ℕ) → once (set ps i p) m ≡ true
-  placed-once a m = ⊎_elim (λ e. rw e (once-here ps i n p none)) (λ ne. once-other ps i m p (a m) (bears-other p.state n m own ne)) (cases_eq m n)
+  pub placed_once : ((m : ℕ) → once ps m ≡ true) → (m : ℕ) → once (set ps i p) m ≡ true
+  placed_once a m = ⊎_elim (λ e. rw e (once_here ps i n p none)) (λ ne. once_other ps i m p (a m) (bears_other p.state n m own ne)) (cases_eq m n)
 
   pub placed_law : i < length ps → (marks : List Bool) → Sound marks n (curve_of p) → ((m : ℕ) (c : Curve) → held ps m ≡ Some c → ∥ Sound marks m c ∥₁) → (m : ℕ) (c : Curve) → held (set ps i p) m ≡ Some c → ∥ Sound marks m c ∥₁
   placed_law h marks s a m c e =
       ⊎_elim
-      (λ q. let f : Some c ≡ Some (curve_of p) = sym e ∙ ap (held (set ps i p)) q ∙ placed-here h in let g : c ≡ curve_of p = cc in rw (q, g) (∣ s ∣₁))
-      (λ ne. a m c (sym (placed-others m ne) ∙ e))
+      (λ q. let f : Some c ≡ Some (curve_of p) = sym e ∙ ap (held (set ps i p)) q ∙ placed_here h in let g : c ≡ curve_of p = cc in rw (q, g) (∣ s ∣₁))
+      (λ ne. a m c (sym (placed_others m ne) ∙ e))
       (cases_eq m n)
 
 pub held_at : (ps : List Place) (i n : ℕ) → once ps n ≡ true → bears (get_or ps i blank).state n ≡ true → held ps n ≡ Some (curve_of (get_or ps i blank))
 held_at [] i n o b = grind arith
 held_at (x ∷ xs) zero n o b = rw b
 held_at (x ∷ xs) (suc i) n o b =
-    ⊎_elim (λ t. absurd (held-some xs i n b (once_tail x xs n t o))) (λ f. rw f (held_at xs i n (once-rest x xs n f o) b)) (cases_Bool (bears x.state n))
+    ⊎_elim (λ t. absurd (held-some xs i n b (once_tail x xs n t o))) (λ f. rw f (held_at xs i n (once_rest x xs n f o) b)) (cases_Bool (bears x.state n))
 
 -- past the last place nothing is in force
 past : (ps : List Place) (i n : ℕ) {X : Type 0} → length ps ≤ i → bears (get_or ps i blank).state n ≡ true → X
@@ -66,22 +66,22 @@ apart (x ∷ xs) (suc i) zero n o a b d = held-some xs i n a (once_tail x xs n b
 apart (x ∷ xs) (suc i) (suc j) n o a b d =
     ⊎_elim
     (λ t. held-some xs i n a (once_tail x xs n t o))
-    (λ f. apart xs i j n (once-rest x xs n f o) a b (λ e. d (ap suc e)))
+    (λ f. apart xs i j n (once_rest x xs n f o) a b (λ e. d (ap suc e)))
     (cases_Bool (bears x.state n))
 
 module _ (ps : List Place) (i n : ℕ) (p : Place) (in_use : bears (get_or ps i blank).state n ≡ true) (free : p.state ≡ Free) where
-  pub freed-here : once ps n ≡ true → held (set ps i p) n ≡ None
-  freed-here o = held_gone ps i n p o in_use (bears_free p.state n free)
+  pub freed_here : once ps n ≡ true → held (set ps i p) n ≡ None
+  freed_here o = held_gone ps i n p o in_use (bears_free p.state n free)
 
-  bears-one : (s : PlaceState) (m : ℕ) → bears s n ≡ true → (m ≡ n → ⊥) → bears s m ≡ false
-  bears-one Free m b ne = refl
-  bears-one (InForce k) m b ne = let e = eqb-true k n b in ne_eqb k m (λ q. ne (sym q ∙ e))
+  bears_one : (s : PlaceState) (m : ℕ) → bears s n ≡ true → (m ≡ n → ⊥) → bears s m ≡ false
+  bears_one Free m b ne = refl
+  bears_one (InForce k) m b ne = let e = eqb-true k n b in ne_eqb k m (λ q. ne (sym q ∙ e))
 
-  pub freed-others : (m : ℕ) → (m ≡ n → ⊥) → held (set ps i p) m ≡ held ps m
-  freed-others m ne = held-other ps i m p (bears-one (get_or ps i blank).state m in_use ne) (bears_free p.state m free)
+  pub freed_others : (m : ℕ) → (m ≡ n → ⊥) → held (set ps i p) m ≡ held ps m
+  freed_others m ne = held_other ps i m p (bears_one (get_or ps i blank).state m in_use ne) (bears_free p.state m free)
 
-  pub freed-once : (m : ℕ) → once ps m ≡ true → once (set ps i p) m ≡ true
-  freed-once m o = once-other ps i m p o (bears_free p.state m free)
+  pub freed_once : (m : ℕ) → once ps m ≡ true → once (set ps i p) m ≡ true
+  freed_once m o = once_other ps i m p o (bears_free p.state m free)
 
   -- the place that was in force with the number is free, and it was the only one
   pub freed_free : once ps n ≡ true → (j : ℕ) → bears (get_or ps j blank).state n ≡ true → is_free_place (get_or (set ps i p) j blank).state ≡ true
@@ -95,22 +95,22 @@ module _ (ps : List Place) (i n : ℕ) (p : Place) (in_use : bears (get_or ps i 
       go (inl h) = rw (get_or-set_same ps i p blank h, free)
       go (inr h) = past ps i n h in_use
 
-  pub freed-stays : (j : ℕ) → bears (get_or ps j blank).state n ≡ false → get_or (set ps i p) j blank ≡ get_or ps j blank
-  freed-stays j b = get_or-set_other ps i j p blank (λ e. both_ways _ b (subst (λ k. bears (get_or ps k blank).state n ≡ true) (sym e) in_use))
+  pub freed_stays : (j : ℕ) → bears (get_or ps j blank).state n ≡ false → get_or (set ps i p) j blank ≡ get_or ps j blank
+  freed_stays j b = get_or-set_other ps i j p blank (λ e. both_ways _ b (subst (λ k. bears (get_or ps k blank).state n ≡ true) (sym e) in_use))
 
-level-same : (p q : Place) → p.count ≡ q.count → p.stages ≡ q.stages → p.flows ≡ q.flows → Level q → Level p
-level-same p q a b d h = rw (a, b, d) h
+level_same : (p q : Place) → p.count ≡ q.count → p.stages ≡ q.stages → p.flows ≡ q.flows → Level q → Level p
+level_same p q a b d h = rw (a, b, d) h
 
 pub levels_set : (ps : List Place) (i : ℕ) (p : Place) → p.count ≡ (get_or ps i blank).count → p.stages ≡ (get_or ps i blank).stages → p.flows ≡ (get_or ps i blank).flows → (j : ℕ) → Level (get_or ps j blank) → Level (get_or (set ps i p) j blank)
 levels_set [] i p a b d j h = h
-levels_set (x ∷ xs) zero p a b d zero h = level-same p x a b d h
+levels_set (x ∷ xs) zero p a b d zero h = level_same p x a b d h
 levels_set (x ∷ xs) zero p a b d (suc j) h = h
 levels_set (x ∷ xs) (suc i) p a b d zero h = h
 levels_set (x ∷ xs) (suc i) p a b d (suc j) h = levels_set xs i p a b d j h
 
 -- one place is level, and the others were
-pub level-set : (ps : List Place) (i : ℕ) (p : Place) → i < length ps → ((j : ℕ) → j < 32 → Level (get_or ps j blank)) → Level p → (j : ℕ) → j < 32 → Level (get_or (set ps i p) j blank)
-level-set ps i p h f k j l =
+pub level_set : (ps : List Place) (i : ℕ) (p : Place) → i < length ps → ((j : ℕ) → j < 32 → Level (get_or ps j blank)) → Level p → (j : ℕ) → j < 32 → Level (get_or (set ps i p) j blank)
+level_set ps i p h f k j l =
     ⊎_elim (λ e. rw e (rw (get_or-set_same ps i p blank h) k)) (λ ne. rw (get_or-set_other ps i j p blank ne) (f j l)) (cases_eq j i)
 
 pub counts_set : (ps : List Place) (i : ℕ) (p : Place) → p.count ≡ (get_or ps i blank).count → (j : ℕ) → (get_or (set ps i p) j blank).count ≡ (get_or ps j blank).count

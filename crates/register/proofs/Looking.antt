@@ -46,8 +46,8 @@ in_force_of r n f = go (held r.table.places n) refl
     go None e = absurd (f (held_none r.table.places n e))
     go (Some c) e = (c, ap₂ standing_of (sound_at r n c e).unmarked e)
 
-pub in_force-past : (r : Core) (n : ℕ) → 1024 < n → InForce (meaning r) n → ⊥
-in_force-past r n l f = go (held r.table.places n) refl
+pub in_force_past : (r : Core) (n : ℕ) → 1024 < n → InForce (meaning r) n → ⊥
+in_force_past r n l f = go (held r.table.places n) refl
   where
     go : (o : Option Curve) → held r.table.places n ≡ o → ⊥
     go None e = not_in_force r n e f

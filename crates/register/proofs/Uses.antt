@@ -18,7 +18,7 @@ use Rattle.register.specs.Meaning.{standing_of, meaning}
 use Rattle.register.specs.Places.{bears, is_free_place, held, NoneFree, blank, once}
 use Rattle.register.specs.Soundness.{Sound}
 use Rattle.register.proofs.Laws.{held_at}
-use Rattle.register.proofs.Changes.{once_tail, once-rest, once-none}
+use Rattle.register.proofs.Changes.{once_tail, once_rest, once-none}
 
 abbrev load : PlaceState → ℕ
 load Free = 0
@@ -47,24 +47,24 @@ one_of p ps n o =
     (cases_Bool (bears p.state n))
 
 once_rests : (p : Place) (ps : List Place) (n : ℕ) → once (p ∷ ps) n ≡ true → once ps n ≡ true
-once_rests p ps n o = ⊎_elim (λ t. once-none ps n (once_tail p ps n t o)) (λ f. once-rest p ps n f o) (cases_Bool (bears p.state n))
+once_rests p ps n o = ⊎_elim (λ t. once-none ps n (once_tail p ps n t o)) (λ f. once_rest p ps n f o) (cases_Bool (bears p.state n))
 
 some_rests : (p : Place) (ps : List Place) (n : ℕ) → is_some (held ps n) ≡ true → is_some (held (p ∷ ps) n) ≡ true
 some_rests p ps n h = ⊎_elim (λ t. rw t) (λ f. rw f h) (cases_Bool (bears p.state n))
 
-bears-load : (s : PlaceState) → ((n : ℕ) → bears s n ≡ true → Number n) → tally (bears s) 1024 ≡ load s
-bears-load Free h = tally-none 1024
-bears-load (InForce m) h = let b = h m (eq-eqb m m refl) in (met m 1024).1 b.0 b.1
+bears_load : (s : PlaceState) → ((n : ℕ) → bears s n ≡ true → Number n) → tally (bears s) 1024 ≡ load s
+bears_load Free h = tally-none 1024
+bears_load (InForce m) h = let b = h m (eq-eqb m m refl) in (met m 1024).1 b.0 b.1
 
 some-head : (p : Place) (ps : List Place) (n : ℕ) → bears p.state n ≡ true → is_some (held (p ∷ ps) n) ≡ true
 some-head p ps n t = rw t
 
-busy-is : (ps : List Place) → ((n : ℕ) → once ps n ≡ true) → ((n : ℕ) → is_some (held ps n) ≡ true → Number n) → tally (λ n. is_some (held ps n)) 1024 ≡ busy ps
-busy-is [] o h = tally-none 1024
-busy-is (p ∷ ps) o h =
+busy_is : (ps : List Place) → ((n : ℕ) → once ps n ≡ true) → ((n : ℕ) → is_some (held ps n) ≡ true → Number n) → tally (λ n. is_some (held ps n)) 1024 ≡ busy ps
+busy_is [] o h = tally-none 1024
+busy_is (p ∷ ps) o h =
     let a = tally_split (λ n. is_some (held (p ∷ ps) n)) (bears p.state) (λ n. is_some (held ps n)) (λ n. one_of p ps n (o n)) 1024 in
-    let b = bears-load p.state (λ n t. h n (some-head p ps n t)) in
-    let c = busy-is ps (λ n. once_rests p ps n (o n)) (λ n t. h n (some_rests p ps n t)) in omega arith
+    let b = bears_load p.state (λ n t. h n (some-head p ps n t)) in
+    let c = busy_is ps (λ n. once_rests p ps n (o n)) (λ n t. h n (some_rests p ps n t)) in omega arith
 
 -- ---- what is in force is sound
 
@@ -89,70 +89,70 @@ sound_at r n c e = sound_of r.withdrawn n c (r.lawful n c e)
 pub makes_at : (r : Core) (n i : ℕ) → i < 32 → bears (get_or r.table.places i blank).state n ≡ true → Makes (take (get_or r.table.places i blank).count (get_or r.table.places i blank).stages) (take (get_or r.table.places i blank).count (get_or r.table.places i blank).flows)
 makes_at r n i l b = (r.level i l, (sound_at r n _ (held_at r.table.places i n (r.apart n) b)).lawful)
 
-some-curve : (r : Core) (n : ℕ) (o : Option Curve) → held r.table.places n ≡ o → is_some o ≡ true → Number n
-some-curve r n None e s = absurd (both_ways false refl s)
-some-curve r n (Some c) e s = (sound_at r n c e).number
+some_curve : (r : Core) (n : ℕ) (o : Option Curve) → held r.table.places n ≡ o → is_some o ≡ true → Number n
+some_curve r n None e s = absurd (both_ways false refl s)
+some_curve r n (Some c) e s = (sound_at r n c e).number
 
 -- where a curve is in force there is no mark, so that the places alone tell
-curve-there : (r : Core) (n : ℕ) (b : Bool) (o : Option Curve) → get_or r.withdrawn n false ≡ b → held r.table.places n ≡ o → is_curve (standing_of b o) ≡ is_some o
-curve-there r n true None m e = refl
-curve-there r n true (Some c) m e = absurd (both_ways _ (sound_at r n c e).unmarked m)
-curve-there r n false None m e = refl
-curve-there r n false (Some c) m e = refl
+curve_there : (r : Core) (n : ℕ) (b : Bool) (o : Option Curve) → get_or r.withdrawn n false ≡ b → held r.table.places n ≡ o → is_curve (standing_of b o) ≡ is_some o
+curve_there r n true None m e = refl
+curve_there r n true (Some c) m e = absurd (both_ways _ (sound_at r n c e).unmarked m)
+curve_there r n false None m e = refl
+curve_there r n false (Some c) m e = refl
 
-tally-same : (f g : ℕ → Bool) → ((n : ℕ) → f n ≡ g n) → (m : ℕ) → tally f m ≡ tally g m
+tally_same : (f g : ℕ → Bool) → ((n : ℕ) → f n ≡ g n) → (m : ℕ) → tally f m ≡ tally g m
 unfolding tally
-tally-same f g h zero = refl
-tally-same f g h (suc m) = omega (arith, tally-same f g h m, ap one_if (h (suc m)))
+tally_same f g h zero = refl
+tally_same f g h (suc m) = omega (arith, tally_same f g h m, ap one_if (h (suc m)))
 
 pub uses : (r : Core) → places_in_use (meaning r).standing ≡ busy r.table.places
 uses r =
-    tally-same (λ n. is_curve ((meaning r).standing n)) (λ n. is_some (held r.table.places n)) (λ n. curve-there r n (get_or r.withdrawn n false) (held r.table.places n) refl refl) 1024
-    ∙ busy-is r.table.places r.apart (λ n. some-curve r n (held r.table.places n) refl)
+    tally_same (λ n. is_curve ((meaning r).standing n)) (λ n. is_some (held r.table.places n)) (λ n. curve_there r n (get_or r.withdrawn n false) (held r.table.places n) refl refl) 1024
+    ∙ busy_is r.table.places r.apart (λ n. some_curve r n (held r.table.places n) refl)
 
 -- ---- room
 
-busy-most : (ps : List Place) → busy ps ≤ length ps
-busy-most [] = omega arith
-busy-most (p ∷ ps) = let h = busy-most ps in go p.state h
+busy_most : (ps : List Place) → busy ps ≤ length ps
+busy_most [] = omega arith
+busy_most (p ∷ ps) = let h = busy_most ps in go p.state h
   where
     go : (s : PlaceState) → busy ps ≤ length ps → load s + busy ps ≤ suc (length ps)
     go Free h = omega arith
     go (InForce m) h = omega arith
 
 -- where no place is free, all are in use
-busy-full : (ps : List Place) → ((i : ℕ) → i < length ps → is_free_place (get_or ps i blank).state ≡ false) → busy ps ≡ length ps
-busy-full [] h = refl
-busy-full (p ∷ ps) h = go p.state (h 0 (omega arith)) (busy-full ps (λ i l. h (suc i) (omega arith)))
+busy_full : (ps : List Place) → ((i : ℕ) → i < length ps → is_free_place (get_or ps i blank).state ≡ false) → busy ps ≡ length ps
+busy_full [] h = refl
+busy_full (p ∷ ps) h = go p.state (h 0 (omega arith)) (busy_full ps (λ i l. h (suc i) (omega arith)))
   where
     go : (s : PlaceState) → is_free_place s ≡ false → busy ps ≡ length ps → load s + busy ps ≡ suc (length ps)
     go Free k ih = absurd (both_ways true k refl)
     go (InForce m) k ih = omega (arith, ih)
 
-busy-room : (ps : List Place) (i : ℕ) → i < length ps → is_free_place (get_or ps i blank).state ≡ true → busy ps < length ps
-busy-room [] i h f = absurd (omega arith)
-busy-room (p ∷ ps) zero h f = let m = busy-most ps in go p.state f m
+busy_room : (ps : List Place) (i : ℕ) → i < length ps → is_free_place (get_or ps i blank).state ≡ true → busy ps < length ps
+busy_room [] i h f = absurd (omega arith)
+busy_room (p ∷ ps) zero h f = let m = busy_most ps in go p.state f m
   where
     go : (s : PlaceState) → is_free_place s ≡ true → busy ps ≤ length ps → load s + busy ps < suc (length ps)
     go Free k m = omega arith
     go (InForce j) k m = absurd (both_ways false refl k)
-busy-room (p ∷ ps) (suc i) h f = let m = busy-room ps i (omega arith) f in go p.state m
+busy_room (p ∷ ps) (suc i) h f = let m = busy_room ps i (omega arith) f in go p.state m
   where
     go : (s : PlaceState) → busy ps < length ps → load s + busy ps < suc (length ps)
     go Free k = omega arith
     go (InForce j) k = omega arith
 
 pub full : (r : Core) → NoneFree r.table.places → 32 ≤ places_in_use (meaning r).standing
-full r h = omega (arith, uses r, busy-full r.table.places (λ i l. h i (omega (arith, r.long))), r.long)
+full r h = omega (arith, uses r, busy_full r.table.places (λ i l. h i (omega (arith, r.long))), r.long)
 
 pub room : (r : Core) (i : ℕ) → i < 32 → is_free_place (get_or r.table.places i blank).state ≡ true → places_in_use (meaning r).standing < 32
-room r i l f = omega (arith, uses r, busy-room r.table.places i (omega (arith, l, r.long)) f, r.long)
+room r i l f = omega (arith, uses r, busy_room r.table.places i (omega (arith, l, r.long)) f, r.long)
 
 -- ---- every register is lawful
 
 -- a mark beyond the last number, or at 0, cannot be
-unmarked-outside : (r : Core) (n : ℕ) → (Number n → ⊥) → get_or r.withdrawn n false ≡ false
-unmarked-outside r n o = go (dec_le 1 n) (dec_le n 1024) (cases_Bool (get_or r.withdrawn n false))
+unmarked_outside : (r : Core) (n : ℕ) → (Number n → ⊥) → get_or r.withdrawn n false ≡ false
+unmarked_outside r n o = go (dec_le 1 n) (dec_le n 1024) (cases_Bool (get_or r.withdrawn n false))
   where
     go : Dec (1 ≤ n) → Dec (n ≤ 1024) → (get_or r.withdrawn n false ≡ true) ⊎ (get_or r.withdrawn n false ≡ false) → get_or r.withdrawn n false ≡ false
     go (yes a) (yes b) d = absurd (o (a, b))
@@ -167,16 +167,16 @@ nothing_outside r n o = go (held r.table.places n) refl
     go None e = refl
     go (Some c) e = absurd (o (sound_at r n c e).number)
 
-lawful-curve_at : (r : Core) (n : ℕ) (c : Curve) (b : Bool) (x : Option Curve) → held r.table.places n ≡ x → standing_of b x ≡ Some (in_force c) → LawfulCurve c
-lawful-curve_at r n c true x e h = absurd (let z : ◌≡◌ {A = ℕ} 0 1 = cc h in omega arith)
-lawful-curve_at r n c false None e h = absurd (let z : ◌≡◌ {A = ℕ} 0 1 = cc h in omega arith)
-lawful-curve_at r n c false (Some d) e h = let q : d ≡ c = cc h in subst LawfulCurve q (sound_at r n d e).lawful
+lawful_curve_at : (r : Core) (n : ℕ) (c : Curve) (b : Bool) (x : Option Curve) → held r.table.places n ≡ x → standing_of b x ≡ Some (in_force c) → LawfulCurve c
+lawful_curve_at r n c true x e h = absurd (let z : ◌≡◌ {A = ℕ} 0 1 = cc h in omega arith)
+lawful_curve_at r n c false None e h = absurd (let z : ◌≡◌ {A = ℕ} 0 1 = cc h in omega arith)
+lawful_curve_at r n c false (Some d) e h = let q : d ≡ c = cc h in subst LawfulCurve q (sound_at r n d e).lawful
 
-pub meaning-lawful : (r : Core) → r.station ≤ 65535 → Lawful (meaning r)
-meaning-lawful r s = record {
-  station-fits = s;
-  serial-fits = r.counted;
-  outside = λ n o. (let a = unmarked-outside r n o in let b = nothing_outside r n o in rw (a, b));
-  curves = λ n c e. lawful-curve_at r n c (get_or r.withdrawn n false) (held r.table.places n) refl e;
-  places = omega (arith, uses r, busy-most r.table.places, r.long);
+pub meaning_lawful : (r : Core) → r.station ≤ 65535 → Lawful (meaning r)
+meaning_lawful r s = record {
+  station_fits = s;
+  serial_fits = r.counted;
+  outside = λ n o. (let a = unmarked_outside r n o in let b = nothing_outside r n o in rw (a, b));
+  curves = λ n c e. lawful_curve_at r n c (get_or r.withdrawn n false) (held r.table.places n) refl e;
+  places = omega (arith, uses r, busy_most r.table.places, r.long);
 }

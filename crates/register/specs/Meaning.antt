@@ -41,7 +41,7 @@ pub record Occupied (before after : List Place) (n : ℕ) (c : Curve) : Type 0 w
   pub place : Place
   pub there : spot < 32
   pub was_free : is_free_place (get_or before spot blank).state ≡ true
-  pub in_force_lem : place.state ≡ InForce n
+  pub now_in_force : place.state ≡ InForce n
   pub curve : curve_of place ≡ c
   pub others : after ≡ slice_set before spot place
 

@@ -26,9 +26,9 @@ told_own : (n : ℕ) (o : Option Standing) → told (entry_of n o) n ≡ o
 told_own n None = refl
 told_own n (Some x) = let q = eq-eqb n n refl in rw q
 
-told-other : (m n : ℕ) (o : Option Standing) → (m ≡ n → ⊥) → told (entry_of m o) n ≡ None
-told-other m n None d = refl
-told-other m n (Some x) d = let q = ne_eqb m n d in rw q
+told_other : (m n : ℕ) (o : Option Standing) → (m ≡ n → ⊥) → told (entry_of m o) n ≡ None
+told_other m n None d = refl
+told_other m n (Some x) d = let q = ne_eqb m n d in rw q
 
 or_none : (o : Option Standing) → or_else o None ≡ o
 unfolding or_else
@@ -41,7 +41,7 @@ module _ (f : ℕ → Option Standing) where
   told_none zero n h = refl
   told_none (suc m) n h =
       told-append (entries_up_to f m) (entry_of (suc m) (f (suc m))) n
-      ∙ ap₂ or_else (told_none m n (less h)) (told-other (suc m) n (f (suc m)) (λ e. apart e h))
+      ∙ ap₂ or_else (told_none m n (less h)) (told_other (suc m) n (f (suc m)) (λ e. apart e h))
     where
       less : (n ≡ 0) ⊎ (suc m < n) → (n ≡ 0) ⊎ (m < n)
       less (inl e) = inl e
@@ -51,14 +51,14 @@ module _ (f : ℕ → Option Standing) where
       apart e (inl z) = omega arith
       apart e (inr l) = omega arith
 
-  told-there : (m n : ℕ) → 1 ≤ n → n ≤ m → told (entries_up_to f m) n ≡ f n
+  told_there : (m n : ℕ) → 1 ≤ n → n ≤ m → told (entries_up_to f m) n ≡ f n
   unfolding entries_up_to or_else
-  told-there zero n a b = absurd (omega arith)
-  told-there (suc m) n a b = told-append (entries_up_to f m) (entry_of (suc m) (f (suc m))) n ∙ go (ℕ_discrete (suc m) n) (λ l. told-there m n a l)
+  told_there zero n a b = absurd (omega arith)
+  told_there (suc m) n a b = told-append (entries_up_to f m) (entry_of (suc m) (f (suc m))) n ∙ go (ℕ_discrete (suc m) n) (λ l. told_there m n a l)
     where
       go : Dec (suc m ≡ n) → (n ≤ m → told (entries_up_to f m) n ≡ f n) → or_else (told (entries_up_to f m) n) (told (entry_of (suc m) (f (suc m))) n) ≡ f n
       go (yes e) ih = ap₂ or_else (told_none m n (inr (omega arith))) (subst (λ k. told (entry_of k (f k)) n ≡ f n) (sym e) (told_own n (f n)))
-      go (no d) ih = ap₂ or_else (ih (omega arith)) (told-other (suc m) n (f (suc m)) d) ∙ or_none (f n)
+      go (no d) ih = ap₂ or_else (ih (omega arith)) (told_other (suc m) n (f (suc m)) d) ∙ or_none (f n)
 
 -- ---- the list is lawful
 
@@ -113,19 +113,19 @@ module _ (f : ℕ → Option Standing) where
   curves-tally zero = refl
   curves-tally (suc m) = curves-append (entries_up_to f m) (entry_of (suc m) (f (suc m))) ∙ ap₂ ◌+◌ (curves-tally m) (curves_entry (suc m) (f (suc m)))
 
-lawful-told : (s : State) → Lawful s → (n : ℕ) → LawfulTold (s.standing n)
+lawful_told : (s : State) → Lawful s → (n : ℕ) → LawfulTold (s.standing n)
 unfolding LawfulTold
-lawful-told s L n = go (s.standing n) (λ c e. L.curves n c e)
+lawful_told s L n = go (s.standing n) (λ c e. L.curves n c e)
   where
     go : (o : Option Standing) → ((c : Curve) → o ≡ Some (in_force c) → LawfulCurve c) → LawfulTold o
     go None h = tt
     go (Some (in_force c)) h = h c refl
     go (Some withdrawn) h = tt
 
-pub entries-lawful : (s : State) → Lawful s → LawfulList (entries_of s)
-entries-lawful s L =
+pub entries_lawful : (s : State) → Lawful s → LawfulList (entries_of s)
+entries_lawful s L =
     record {
-      rising = rises s.standing (lawful-told s L) 1024 (omega arith);
+      rising = rises s.standing (lawful_told s L) 1024 (omega arith);
       few = subst (λ k. k ≤ 32) (sym (curves-tally s.standing 1024)) L.places;
     }
 
@@ -133,17 +133,17 @@ pub told_entries : (s : State) → Lawful s → (n : ℕ) → told (entries_of s
 told_entries s L n = go (dec_le 1 n) (dec_le n 1024)
   where
     go : Dec (1 ≤ n) → Dec (n ≤ 1024) → told (entries_of s) n ≡ s.standing n
-    go (yes a) (yes b) = told-there s.standing 1024 n a b
+    go (yes a) (yes b) = told_there s.standing 1024 n a b
     go (no a) d = told_none s.standing 1024 n (inl (omega (arith, a))) ∙ sym (L.outside n (λ k. a k.0))
     go (yes a) (no b) = told_none s.standing 1024 n (inr (omega (arith, b))) ∙ sym (L.outside n (λ k. b k.1))
 
 pub copy_of : CopyOf
-copy_of s L = (entries-lawful s L, told_entries s L)
+copy_of s L = (entries_lawful s L, told_entries s L)
 
 -- outside 1 to 1,024 a lawful list tells nothing
-told-low : (b : ℕ) (xs : List Entry) (n : ℕ) → RisesAbove b xs → (n ≤ b) ⊎ (1024 < n) → told xs n ≡ None
-told-low b [] n r h = refl
-told-low b (x ∷ xs) n r h = let q = ne_eqb x.number n (λ e. apart e h) in rw q (told-low x.number xs n r.3 (less h))
+told_low : (b : ℕ) (xs : List Entry) (n : ℕ) → RisesAbove b xs → (n ≤ b) ⊎ (1024 < n) → told xs n ≡ None
+told_low b [] n r h = refl
+told_low b (x ∷ xs) n r h = let q = ne_eqb x.number n (λ e. apart e h) in rw q (told_low x.number xs n r.3 (less h))
   where
     apart : x.number ≡ n → (n ≤ b) ⊎ (1024 < n) → ⊥
     apart e (inl l) = omega (arith, r.0, e)
@@ -153,18 +153,18 @@ told-low b (x ∷ xs) n r h = let q = ne_eqb x.number n (λ e. apart e h) in rw 
     less (inl l) = inl (omega (arith, r.0))
     less (inr l) = inr l
 
-pub told-outside : (xs : List Entry) → LawfulList xs → (n : ℕ) → (Number n → ⊥) → told xs n ≡ None
-told-outside xs L n o = go (dec_le 1 n) (dec_le n 1024)
+pub told_outside : (xs : List Entry) → LawfulList xs → (n : ℕ) → (Number n → ⊥) → told xs n ≡ None
+told_outside xs L n o = go (dec_le 1 n) (dec_le n 1024)
   where
     go : Dec (1 ≤ n) → Dec (n ≤ 1024) → told xs n ≡ None
     go (yes a) (yes b) = absurd (o (a, b))
-    go (no a) d = told-low 0 xs n L.rising (inl (omega (arith, a)))
-    go (yes a) (no b) = told-low 0 xs n L.rising (inr (omega (arith, b)))
+    go (no a) d = told_low 0 xs n L.rising (inl (omega (arith, a)))
+    go (yes a) (no b) = told_low 0 xs n L.rising (inr (omega (arith, b)))
 
 -- each curve that a lawful list tells is lawful
-told-rising : (b : ℕ) (xs : List Entry) (n : ℕ) (c : Curve) → RisesAbove b xs → told xs n ≡ Some (in_force c) → LawfulCurve c
-told-rising b [] n c r h = absurd (let z : ◌≡◌ {A = ℕ} 0 1 = cc h in omega arith)
-told-rising b (x ∷ xs) n c r h = go (ℕ_discrete x.number n) (λ k. told-rising x.number xs n c r.3 k)
+told_rising : (b : ℕ) (xs : List Entry) (n : ℕ) (c : Curve) → RisesAbove b xs → told xs n ≡ Some (in_force c) → LawfulCurve c
+told_rising b [] n c r h = absurd (let z : ◌≡◌ {A = ℕ} 0 1 = cc h in omega arith)
+told_rising b (x ∷ xs) n c r h = go (ℕ_discrete x.number n) (λ k. told_rising x.number xs n c r.3 k)
   where
     go : Dec (x.number ≡ n) → (told xs n ≡ Some (in_force c) → LawfulCurve c) → LawfulCurve c
     go (yes e) ih =
@@ -174,5 +174,5 @@ told-rising b (x ∷ xs) n c r h = go (ℕ_discrete x.number n) (λ k. told-risi
         subst LawfulStanding m r.2
     go (no d) ih = let q = ne_eqb x.number n d in ih (rw q at h)
 
-pub told-lawful : (xs : List Entry) → LawfulList xs → (n : ℕ) (c : Curve) → told xs n ≡ Some (in_force c) → LawfulCurve c
-told-lawful xs L n c h = told-rising 0 xs n c L.rising h
+pub told_lawful : (xs : List Entry) → LawfulList xs → (n : ℕ) (c : Curve) → told xs n ≡ Some (in_force c) → LawfulCurve c
+told_lawful xs L n c h = told_rising 0 xs n c L.rising h

@@ -9,7 +9,7 @@ use Rattle.rules.specs.Bundles.{told}
 use Rattle.rules.specs.Calls.{Call, Answer, Convert, Seal, joined, new_curve, staying, Does, publish, withdraw, convert, seal, open_parcel, take_in, refused, accepted, convert_1, convert_2, convert_6, convert_11, convert_7, converted, seal_18, seal_15, seal_11, written}
 use Rattle.rules.specs.Runs.{Event, At}
 use Rattle.rules.specs.Laws.{RoomExactly, left_by, RefusedKeeps, is_sealed, seals_before, SerialCounts}
-use Rattle.rules.proofs.Lawfulness.{was-there}
+use Rattle.rules.proofs.Lawfulness.{was_there}
 use Rattle.rules.proofs.Moves.{Moves, moves, stays, places, marks, raises, merges}
 use Rattle.rules.proofs.Tallies.{tally_grows}
 
@@ -21,19 +21,19 @@ unfolding tally
 tally_split f g h k zero = refl
 tally_split f g h k (suc m) = omega (arith, tally_split f g h k m, k (suc m))
 
-stays-new_apart : (o y : Option Standing) → one_if (is_curve (joined o y)) ≡ one_if (staying o y) + one_if (new_curve o y)
-stays-new_apart None None = refl
-stays-new_apart None (Some (in_force d)) = refl
-stays-new_apart None (Some withdrawn) = refl
-stays-new_apart (Some withdrawn) y = refl
-stays-new_apart (Some (in_force c)) None = refl
-stays-new_apart (Some (in_force c)) (Some (in_force d)) = refl
-stays-new_apart (Some (in_force c)) (Some withdrawn) = refl
+stays_new_apart : (o y : Option Standing) → one_if (is_curve (joined o y)) ≡ one_if (staying o y) + one_if (new_curve o y)
+stays_new_apart None None = refl
+stays_new_apart None (Some (in_force d)) = refl
+stays_new_apart None (Some withdrawn) = refl
+stays_new_apart (Some withdrawn) y = refl
+stays_new_apart (Some (in_force c)) None = refl
+stays_new_apart (Some (in_force c)) (Some (in_force d)) = refl
+stays_new_apart (Some (in_force c)) (Some withdrawn) = refl
 
 pub room_exactly : RoomExactly
 room_exactly s L xs =
-    let a = tally_split (λ n. is_curve (joined (s.standing n) (told xs n))) (λ n. staying (s.standing n) (told xs n)) (λ n. new_curve (s.standing n) (told xs n)) (λ n. stays-new_apart (s.standing n) (told xs n)) 1024 in
-    let b = tally_grows (λ n. staying (s.standing n) (told xs n)) (λ n. is_curve (s.standing n)) (λ n. was-there (s.standing n) (told xs n)) 1024 in
+    let a = tally_split (λ n. is_curve (joined (s.standing n) (told xs n))) (λ n. staying (s.standing n) (told xs n)) (λ n. new_curve (s.standing n) (told xs n)) (λ n. stays_new_apart (s.standing n) (told xs n)) 1024 in
+    let b = tally_grows (λ n. staying (s.standing n) (told xs n)) (λ n. is_curve (s.standing n)) (λ n. was_there (s.standing n) (told xs n)) 1024 in
     (λ h. omega (arith, a, b, L.places, h), λ h. omega (arith, a, b, L.places, h))
 
 -- ---- a refused call
@@ -84,10 +84,10 @@ serial_step E1 E2 s q a lent t (marks _ _ e _ h) = omega (arith, ap (λ u. u.ser
 serial_step E1 E2 s q a lent t (raises _ _ _ e _ h) = omega (arith, ap (λ u. u.serial) h, ap (λ x. one_if (is_sealed x)) e)
 serial_step E1 E2 s q a lent t (merges _ _ _ _ _ _ e h) = omega (arith, ap (λ u. u.serial) h.after, ap (λ x. one_if (is_sealed x)) e)
 
-there-is : (log : List Event) (p : ℕ) → p < length log → (e : Event) × At log p e
-there-is [] p h = absurd (omega arith)
-there-is (x ∷ log) zero h = (x, refl)
-there-is (x ∷ log) (suc p) h = there-is log p (omega arith)
+there_is : (log : List Event) (p : ℕ) → p < length log → (e : Event) × At log p e
+there_is [] p h = absurd (omega arith)
+there_is (x ∷ log) zero h = (x, refl)
+there_is (x ∷ log) (suc p) h = there_is log p (omega arith)
 
 seals-more : (log : List Event) (p i : ℕ) (e : Event) → At log p e → seals_before log (suc p) i ≡ seals_before log p i + one_if (cond (eqb e.who i) (is_sealed e.answer) false)
 seals-more [] p i e h = absurd (let z : ◌≡◌ {A = ℕ} 0 1 = cc h in omega arith)
@@ -102,7 +102,7 @@ serial_counts E1 E2 n log w R zero i h l = ap (λ s. s.serial) (R.starts.new i l
     none [] = refl
     none (e ∷ log) = refl
 serial_counts E1 E2 n log w R (suc p) i h l =
-    let (e, at) = there-is log p (omega arith) in
+    let (e, at) = there_is log p (omega arith) in
     let ih = serial_counts E1 E2 n log w R p i (omega arith) l in
     go e at ih (ℕ_discrete e.who i) ∙ sym (seals-more log p i e at)
   where

@@ -56,13 +56,13 @@ module _ (E1 D1 E2 : Block → Block) (k : Inverse E1 D1) (s t : State) (q : Cal
   unfolding moved
   moved_here = choose_yes (ℕ_discrete who who) t (w (length log) who) refl
 
-  moved-others : (j : ℕ) → (j ≡ who → ⊥) → moved j ≡ w (length log) j
+  moved_others : (j : ℕ) → (j ≡ who → ⊥) → moved j ≡ w (length log) j
   unfolding moved
-  moved-others j d = choose_no (ℕ_discrete j who) t (w (length log) j) d
+  moved_others j d = choose_no (ℕ_discrete j who) t (w (length log) j) d
 
   step_now : Step E1 E2 n (w (length log)) e moved
   unfolding e
-  step_now = record { known = known; does = subst₂ (λ x y. Does E1 E2 x q a lent y) (sym here) (sym moved_here) does; others = moved-others }
+  step_now = record { known = known; does = subst₂ (λ x y. Does E1 E2 x q a lent y) (sym here) (sym moved_here) does; others = moved_others }
 
   steps : (p : ℕ) (x : Event) → At (log ++ (e ∷ [])) p x → Step E1 E2 n (history p) x (history (suc p))
   steps p x at = go (at_append log e p x at)
@@ -81,12 +81,12 @@ module _ (E1 D1 E2 : Block → Block) (k : Inverse E1 D1) (s t : State) (q : Cal
     run = run;
     same = early;
     here = ap (λ u. u who) now ∙ moved_here;
-    others = λ j d. ap (λ u. u j) now ∙ moved-others j d;
+    others = λ j d. ap (λ u. u j) now ∙ moved_others j d;
     promises = promises E1 D1 E2 k n (log ++ (e ∷ [])) history run;
   }
 
 pub every_call : EveryCall
 every_call E1 D1 E2 D2 k l s q a lent t does n log w who R known here = goes_on E1 D1 E2 k s t q a lent does n log w who R known here
 
-pub every-run : EveryRun Promises
-every-run E1 D1 E2 D2 k l n log w R = promises E1 D1 E2 k n log w R
+pub every_run : EveryRun Promises
+every_run E1 D1 E2 D2 k l n log w R = promises E1 D1 E2 k n log w R

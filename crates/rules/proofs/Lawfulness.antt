@@ -6,14 +6,14 @@ use Rattle.rules.specs.Registers.{Number, Standing, State, is_curve, places_in_u
 use Rattle.rules.specs.Bundles.{Entry, LawfulStanding, LawfulList, told}
 use Rattle.rules.specs.Calls.{Call, Answer, joined, new_curve, staying, merged, TooMany}
 use Rattle.rules.specs.Laws.{StaysLawful}
-use Rattle.rules.proofs.Copies.{told-outside, told-lawful}
-use Rattle.rules.proofs.Moves.{Moves, moves, put_cases, joined-from, stays, places, marks, raises, merges}
-use Rattle.rules.proofs.Tallies.{true_false, tally_grows, tally-one, tally_sum, tally-none}
+use Rattle.rules.proofs.Copies.{told_outside, told_lawful}
+use Rattle.rules.proofs.Moves.{Moves, moves, put_cases, joined_from, stays, places, marks, raises, merges}
+use Rattle.rules.proofs.Tallies.{true_false, tally_grows, tally_one, tally_sum, tally-none}
 
-pub lawful-new : (s : State) → s ≡ new_state s.station → s.station ≤ 65535 → Lawful s
-lawful-new s h l = subst Lawful (sym h) (record {
-  station-fits = l;
-  serial-fits = omega arith;
+pub lawful_new : (s : State) → s ≡ new_state s.station → s.station ≤ 65535 → Lawful s
+lawful_new s h l = subst Lawful (sym h) (record {
+  station_fits = l;
+  serial_fits = omega arith;
   outside = λ n o. refl;
   curves = λ n c e. absurd (let z : ◌≡◌ {A = ℕ} 0 1 = cc e in omega arith);
   places = omega (arith, tally-none 1024);
@@ -23,7 +23,7 @@ lawful-new s h l = subst Lawful (sym h) (record {
 
 -- a curve that is put is one curve more at most
 put-curves : (n : ℕ) (x : Standing) (s : State) → places_in_use (put n x s).standing ≤ places_in_use s.standing + 1
-put-curves n x s = (tally-one (λ m. is_curve ((put n x s).standing m)) (λ m. is_curve (s.standing m)) n (λ m d. ap is_curve (apart m d)) 1024).0
+put-curves n x s = (tally_one (λ m. is_curve ((put n x s).standing m)) (λ m. is_curve (s.standing m)) n (λ m d. ap is_curve (apart m d)) 1024).0
   where
     apart : (m : ℕ) → (m ≡ n → ⊥) → (put n x s).standing m ≡ s.standing m
     apart m d = go (put_cases n x s (put n x s) refl m)
@@ -43,10 +43,10 @@ put_mark_curves n s = tally_grows (λ m. is_curve ((put n withdrawn s).standing 
         go (inl (_, e)) = absurd (true_false (is_curve ((put n withdrawn s).standing m)) h (ap is_curve e))
         go (inr (_, e)) = ap is_curve (sym e) ∙ h
 
-lawful-put : (n : ℕ) (x : Standing) (s : State) → Lawful s → Number n → LawfulStanding x → places_in_use (put n x s).standing ≤ 32 → Lawful (put n x s)
-lawful-put n x s L i l p = record {
-  station-fits = L.station-fits;
-  serial-fits = L.serial-fits;
+lawful_put : (n : ℕ) (x : Standing) (s : State) → Lawful s → Number n → LawfulStanding x → places_in_use (put n x s).standing ≤ 32 → Lawful (put n x s)
+lawful_put n x s L i l p = record {
+  station_fits = L.station_fits;
+  serial_fits = L.serial_fits;
   outside = λ m o. out m o (put_cases n x s (put n x s) refl m);
   curves = λ m c e. lawful m c e (put_cases n x s (put n x s) refl m);
   places = p;
@@ -72,46 +72,46 @@ stays_or_new (Some (in_force c)) None h = inl refl
 stays_or_new (Some (in_force c)) (Some (in_force d)) h = inl refl
 stays_or_new (Some (in_force c)) (Some withdrawn) h = absurd (true_false false h refl)
 
-pub was-there : (o y : Option Standing) → staying o y ≡ true → is_curve o ≡ true
-was-there None y h = h
-was-there (Some withdrawn) y h = h
-was-there (Some (in_force c)) y h = refl
+pub was_there : (o y : Option Standing) → staying o y ≡ true → is_curve o ≡ true
+was_there None y h = h
+was_there (Some withdrawn) y h = h
+was_there (Some (in_force c)) y h = refl
 
 merged-curves : (s : State) (xs : List Entry) → places_in_use s.standing ≤ 32 → (TooMany s xs → ⊥) → places_in_use (merged xs s).standing ≤ 32
 merged-curves s xs l f =
     let a = tally_sum (λ n. is_curve (joined (s.standing n) (told xs n))) (λ n. staying (s.standing n) (told xs n)) (λ n. new_curve (s.standing n) (told xs n)) (λ n. stays_or_new (s.standing n) (told xs n)) 1024 in
-    let b = tally_grows (λ n. staying (s.standing n) (told xs n)) (λ n. is_curve (s.standing n)) (λ n. was-there (s.standing n) (told xs n)) 1024 in
+    let b = tally_grows (λ n. staying (s.standing n) (told xs n)) (λ n. is_curve (s.standing n)) (λ n. was_there (s.standing n) (told xs n)) 1024 in
     omega (arith, a, b, l, f)
 
-lawful-merged : (s : State) (xs : List Entry) → Lawful s → LawfulList xs → (TooMany s xs → ⊥) → Lawful (merged xs s)
-lawful-merged s xs L M f = record {
-  station-fits = L.station-fits;
-  serial-fits = L.serial-fits;
-  outside = λ n o. (let a = L.outside n o in let b = told-outside xs M n o in rw (a, b));
-  curves = λ n c e. by n c (joined-from (s.standing n) (told xs n) (in_force c) e);
+lawful_merged : (s : State) (xs : List Entry) → Lawful s → LawfulList xs → (TooMany s xs → ⊥) → Lawful (merged xs s)
+lawful_merged s xs L M f = record {
+  station_fits = L.station_fits;
+  serial_fits = L.serial_fits;
+  outside = λ n o. (let a = L.outside n o in let b = told_outside xs M n o in rw (a, b));
+  curves = λ n c e. by n c (joined_from (s.standing n) (told xs n) (in_force c) e);
   places = merged-curves s xs L.places f;
 }
   where
     by : (n : ℕ) (c : Curve) → (s.standing n ≡ Some (in_force c)) ⊎ (told xs n ≡ Some (in_force c)) → LawfulCurve c
     by n c (inl e) = L.curves n c e
-    by n c (inr e) = told-lawful xs M n c e
+    by n c (inr e) = told_lawful xs M n c e
 
 -- ---- every move
 
-pub lawful-moved : (E1 E2 : Block → Block) (s : State) → Lawful s → (q : Call) (a : Answer) (lent : List ℕ) (t : State) → Moves E1 E2 s q a lent t → Lawful t
-lawful-moved E1 E2 s L q a lent t (stays h _) = subst Lawful (sym h) L
-lawful-moved E1 E2 s L q a lent t (places n st fl _ _ i _ m r h) =
-    subst Lawful (sym h) (lawful-put n (in_force (points st fl)) s L i m.1 (omega (arith, r, put-curves n (in_force (points st fl)) s)))
-lawful-moved E1 E2 s L q a lent t (marks n _ _ i h) =
-    subst Lawful (sym h) (lawful-put n withdrawn s L i tt (omega (arith, L.places, put_mark_curves n s)))
-lawful-moved E1 E2 s L q a lent t (raises _ _ _ _ f h) = subst Lawful (sym h) (record {
-  station-fits = L.station-fits;
-  serial-fits = omega (arith, L.serial-fits, f);
+pub lawful_moved : (E1 E2 : Block → Block) (s : State) → Lawful s → (q : Call) (a : Answer) (lent : List ℕ) (t : State) → Moves E1 E2 s q a lent t → Lawful t
+lawful_moved E1 E2 s L q a lent t (stays h _) = subst Lawful (sym h) L
+lawful_moved E1 E2 s L q a lent t (places n st fl _ _ i _ m r h) =
+    subst Lawful (sym h) (lawful_put n (in_force (points st fl)) s L i m.1 (omega (arith, r, put-curves n (in_force (points st fl)) s)))
+lawful_moved E1 E2 s L q a lent t (marks n _ _ i h) =
+    subst Lawful (sym h) (lawful_put n withdrawn s L i tt (omega (arith, L.places, put_mark_curves n s)))
+lawful_moved E1 E2 s L q a lent t (raises _ _ _ _ f h) = subst Lawful (sym h) (record {
+  station_fits = L.station_fits;
+  serial_fits = omega (arith, L.serial_fits, f);
   outside = L.outside;
   curves = L.curves;
   places = L.places;
 })
-lawful-moved E1 E2 s L q a lent t (merges _ _ _ _ _ _ _ h) = subst Lawful (sym h.after) (lawful-merged s h.bundle.entries L h.bundle.lawful h.fits)
+lawful_moved E1 E2 s L q a lent t (merges _ _ _ _ _ _ _ h) = subst Lawful (sym h.after) (lawful_merged s h.bundle.entries L h.bundle.lawful h.fits)
 
-pub stays-lawful : StaysLawful
-stays-lawful E1 E2 s L q a lent t h = lawful-moved E1 E2 s L q a lent t (moves E1 E2 s a lent t q h)
+pub stays_lawful : StaysLawful
+stays_lawful E1 E2 s L q a lent t h = lawful_moved E1 E2 s L q a lent t (moves E1 E2 s a lent t q h)

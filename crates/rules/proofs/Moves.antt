@@ -79,8 +79,8 @@ module _ (E1 E2 : Block → Block) (s : State) (a : Answer) (lent : List ℕ) (t
 
 -- ---- one number is put, or all are joined
 
-pub put-here : (n : ℕ) (x : Standing) (s : State) → (put n x s).standing n ≡ Some x
-put-here n x s = let q = eq-eqb n n refl in rw q
+pub put_here : (n : ℕ) (x : Standing) (s : State) → (put n x s).standing n ≡ Some x
+put_here n x s = let q = eq-eqb n n refl in rw q
 
 pub put_other : (n : ℕ) (x : Standing) (s : State) (m : ℕ) → (m ≡ n → ⊥) → (put n x s).standing m ≡ s.standing m
 put_other n x s m d = let q = ne_eqb m n d in rw q
@@ -90,7 +90,7 @@ pub put_cases : (n : ℕ) (x : Standing) (s t : State) → t ≡ put n x s → (
 put_cases n x s t h m = go (ℕ_discrete m n)
   where
     go : Dec (m ≡ n) → ((m ≡ n) × (t.standing m ≡ Some x)) ⊎ ((m ≡ n → ⊥) × (t.standing m ≡ s.standing m))
-    go (yes e) = inl (e, ap (λ u. u.standing m) h ∙ subst (λ k. (put n x s).standing k ≡ Some x) (sym e) (put-here n x s))
+    go (yes e) = inl (e, ap (λ u. u.standing m) h ∙ subst (λ k. (put n x s).standing k ≡ Some x) (sym e) (put_here n x s))
     go (no d) = inr (d, ap (λ u. u.standing m) h ∙ put_other n x s m d)
 
 joined_mark : (o y : Option Standing) → o ≡ Some withdrawn → joined o y ≡ Some withdrawn
@@ -101,12 +101,12 @@ joined-marked None y h = h
 joined-marked (Some withdrawn) y h = refl
 joined-marked (Some (in_force c)) y h = rw h
 
-pub joined-from : (o y : Option Standing) (x : Standing) → joined o y ≡ Some x → (o ≡ Some x) ⊎ (y ≡ Some x)
-joined-from None y x h = inr h
-joined-from (Some withdrawn) y x h = inl h
-joined-from (Some (in_force c)) None x h = inl h
-joined-from (Some (in_force c)) (Some (in_force d)) x h = inl h
-joined-from (Some (in_force c)) (Some withdrawn) x h = inr h
+pub joined_from : (o y : Option Standing) (x : Standing) → joined o y ≡ Some x → (o ≡ Some x) ⊎ (y ≡ Some x)
+joined_from None y x h = inr h
+joined_from (Some withdrawn) y x h = inl h
+joined_from (Some (in_force c)) None x h = inl h
+joined_from (Some (in_force c)) (Some (in_force d)) x h = inl h
+joined_from (Some (in_force c)) (Some withdrawn) x h = inr h
 
 -- ---- what every move keeps
 
@@ -166,7 +166,7 @@ module _ (E1 E2 : Block → Block) (s : State) (q : Call) (a : Answer) (lent : L
       go (inl (e, _)) = mark_set (qe ∙ ap withdraw (sym e)) ae
       go (inr (_, e)) = mark_was (sym e ∙ m)
   mark_from n m (raises _ _ _ _ _ h) = mark_was (sym (ap (λ u. u.standing n) h) ∙ m)
-  mark_from n m (merges bytes work x y z k e h) = go (joined-from (s.standing n) (told h.bundle.entries n) withdrawn (sym (ap (λ u. u.standing n) h.after) ∙ m))
+  mark_from n m (merges bytes work x y z k e h) = go (joined_from (s.standing n) (told h.bundle.entries n) withdrawn (sym (ap (λ u. u.standing n) h.after) ∙ m))
     where
       go : (s.standing n ≡ Some withdrawn) ⊎ (told h.bundle.entries n ≡ Some withdrawn) → MarkFrom n
       go (inl u) = mark_was u
@@ -179,20 +179,20 @@ module _ (E1 E2 : Block → Block) (s : State) (q : Call) (a : Answer) (lent : L
     curve_read : (bytes work : List ℕ) (x y z : ℕ) → (q ≡ open_parcel bytes work) ⊎ (q ≡ take_in bytes work) → a ≡ opened x y z → (h : Merging E1 s bytes t)
         → told h.bundle.entries n ≡ Some (in_force c) → CurveFrom n c
 
-  pub curve-from : (n : ℕ) (c : Curve) → t.standing n ≡ Some (in_force c) → Moves E1 E2 s q a lent t → CurveFrom n c
-  curve-from n c m (stays h _) = curve_was (sym (ap (λ u. u.standing n) h) ∙ m)
-  curve-from n c m (places k st fl qe ae _ _ _ _ h) = go (put_cases k (in_force (points st fl)) s t h n)
+  pub curve_from : (n : ℕ) (c : Curve) → t.standing n ≡ Some (in_force c) → Moves E1 E2 s q a lent t → CurveFrom n c
+  curve_from n c m (stays h _) = curve_was (sym (ap (λ u. u.standing n) h) ∙ m)
+  curve_from n c m (places k st fl qe ae _ _ _ _ h) = go (put_cases k (in_force (points st fl)) s t h n)
     where
       go : ((n ≡ k) × (t.standing n ≡ Some (in_force (points st fl)))) ⊎ ((n ≡ k → ⊥) × (t.standing n ≡ s.standing n)) → CurveFrom n c
       go (inl (e, f)) = curve_set st fl (qe ∙ ap (λ x. publish x st fl) (sym e)) ae (cc (m, f))
       go (inr (_, e)) = curve_was (sym e ∙ m)
-  curve-from n c m (marks k _ _ _ h) = go (put_cases k withdrawn s t h n)
+  curve_from n c m (marks k _ _ _ h) = go (put_cases k withdrawn s t h n)
     where
       go : ((n ≡ k) × (t.standing n ≡ Some withdrawn)) ⊎ ((n ≡ k → ⊥) × (t.standing n ≡ s.standing n)) → CurveFrom n c
       go (inl (_, e)) = other_mark (t.standing n) c e m
       go (inr (_, e)) = curve_was (sym e ∙ m)
-  curve-from n c m (raises _ _ _ _ _ h) = curve_was (sym (ap (λ u. u.standing n) h) ∙ m)
-  curve-from n c m (merges bytes work x y z k e h) = go (joined-from (s.standing n) (told h.bundle.entries n) (in_force c) (sym (ap (λ u. u.standing n) h.after) ∙ m))
+  curve_from n c m (raises _ _ _ _ _ h) = curve_was (sym (ap (λ u. u.standing n) h) ∙ m)
+  curve_from n c m (merges bytes work x y z k e h) = go (joined_from (s.standing n) (told h.bundle.entries n) (in_force c) (sym (ap (λ u. u.standing n) h.after) ∙ m))
     where
       go : (s.standing n ≡ Some (in_force c)) ⊎ (told h.bundle.entries n ≡ Some (in_force c)) → CurveFrom n c
       go (inl u) = curve_was u

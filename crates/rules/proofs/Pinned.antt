@@ -8,7 +8,7 @@ use Rattle.modes.specs.declared.mode.Mode.TheVariants.{Ecb}
 use Rattle.modes.specs.Cmac.{tag_of}
 use Rattle.modes.specs.Texts.{OneText}
 use Rattle.curve.specs.Curves.{Curve, Makes, points, LawfulCurve}
-use Rattle.curve.proofs.Neighbours.{flow-one}
+use Rattle.curve.proofs.Neighbours.{flow_one}
 use Rattle.rules.specs.Registers.{Number, Standing, State, Lawful, places_in_use, put, in_force, withdrawn}
 use Rattle.rules.specs.Bundles.{Entry, encoding, LawfulList, Bundle, PadsTo}
 use Rattle.rules.specs.Parcels.{header, start_of, parcel_of, Sized, Parcel, Reads}
@@ -16,7 +16,7 @@ use Rattle.rules.specs.Calls.{Answer, Publish, Withdraw, AllCovered, Flows, Conv
 use Rattle.rules.specs.Laws.{Pinned}
 use Rattle.rules.proofs.Encoding.{one_list}
 use Rattle.rules.proofs.Padding.{pads_one}
-use Rattle.rules.proofs.Parcels.{parcel-one}
+use Rattle.rules.proofs.Parcels.{parcel_one}
 
 -- ---- outcomes, and questions that leave one
 
@@ -57,8 +57,8 @@ ask f g = turn_one (λ _. f) (λ _. g)
 data Given (A : Type 0) (Q : A → Type 0) (X : A → Outcome → Type 0) (o : Outcome) : Type 0 where
   given : (a : A) → Q a → X a o → Given A Q X o
 
-given-one : {A : Type 0} {Q : A → Type 0} {X : A → Outcome → Type 0} → ((a b : A) → Q a → Q b → a ≡ b) → ((a : A) → Q a → One (X a)) → One (Given A Q X)
-given-one {X = X} u f o p (given a q x) (given b r y) = f b r o p (subst (λ c. X c o) (u a b q r) x) y
+given_one : {A : Type 0} {Q : A → Type 0} {X : A → Outcome → Type 0} → ((a b : A) → Q a → Q b → a ≡ b) → ((a : A) → Q a → One (X a)) → One (Given A Q X)
+given_one {X = X} u f o p (given a q x) (given b r y) = f b r o p (subst (λ c. X c o) (u a b q r) x) y
 
 -- ---- what stands is one thing
 
@@ -68,8 +68,8 @@ none-some o x h k = absurd (let z : ◌≡◌ {A = ℕ} 0 1 = cc (h, k) in omega
 mark_curve : {X : Type 0} (o : Option Standing) (c : Curve) → o ≡ Some withdrawn → o ≡ Some (in_force c) → X
 mark_curve o c h k = absurd (let z : ◌≡◌ {A = ℕ} 0 1 = cc (h, k) in omega arith)
 
-curve-same : (o : Option Standing) (c d : Curve) → o ≡ Some (in_force c) → o ≡ Some (in_force d) → c ≡ d
-curve-same o c d h k = cc (h, k)
+curve_same : (o : Option Standing) (c d : Curve) → o ≡ Some (in_force c) → o ≡ Some (in_force d) → c ≡ d
+curve_same o c d h k = cc (h, k)
 
 -- ---- publish, withdraw
 
@@ -94,9 +94,9 @@ module _ (n : ℕ) (st : List ℤ) (fl : List ℕ) (s : State) where
   publishing a l t (publish_5 i m g f e h) k = holds i (fails (λ x. none-some (s.standing n) withdrawn m x) (holds g (holds m (fails (λ r. omega arith) (is e k h)))))
   publishing a l t (published i m g r e h) k = holds i (fails (λ x. none-some (s.standing n) withdrawn m x) (holds g (holds m (holds r (is e k h)))))
 
-  publishing-one : One Publishing
+  publishing_one : One Publishing
   unfolding Publishing
-  publishing-one = ask (ask is_one (ask (ask (ask is_one is_one) is_one) is_one)) is_one
+  publishing_one = ask (ask is_one (ask (ask (ask is_one is_one) is_one) is_one)) is_one
 
 module _ (n : ℕ) (s : State) where
   Withdrawing : Outcome → Type 0
@@ -107,9 +107,9 @@ module _ (n : ℕ) (s : State) where
   withdrawing a l t (withdraw_1 o e h) k = fails o (is e k h)
   withdrawing a l t (marked i e h) k = holds i (is e k h)
 
-  withdrawing-one : One Withdrawing
+  withdrawing_one : One Withdrawing
   unfolding Withdrawing
-  withdrawing-one = ask is_one is_one
+  withdrawing_one = ask is_one is_one
 
 -- ---- convert
 
@@ -128,9 +128,9 @@ lists_one (x ∷ xs) (y ∷ ys) (suc k) l f d =
     let r : xs ≡ ys = lists_one xs ys k (omega arith) (λ j m. f (suc j) (omega arith)) d in
     cc (e, r)
 
-filled-one : (c : Curve) → LawfulCurve c → (st : List ℤ) (room : List ℕ) (s : State) → One (Filled c st room s)
-filled-one c L st room s o p (filled a f t) (filled b g u) =
-    let e = lists_one o.lent p.lent (length st) (f.size ∙ sym g.size) (λ j m. flow-one c L (get_or st j (pos 0)) (get_or o.lent j 0) (get_or p.lent j 0) (f.flow j m) (g.flow j m)) (f.rest ∙ sym g.rest) in
+filled_one : (c : Curve) → LawfulCurve c → (st : List ℤ) (room : List ℕ) (s : State) → One (Filled c st room s)
+filled_one c L st room s o p (filled a f t) (filled b g u) =
+    let e = lists_one o.lent p.lent (length st) (f.size ∙ sym g.size) (λ j m. flow_one c L (get_or st j (pos 0)) (get_or o.lent j 0) (get_or p.lent j 0) (f.flow j m) (g.flow j m)) (f.rest ∙ sym g.rest) in
     λ i. record { answer = (a ∙ sym b) i; lent = e i; after = (t ∙ sym u) i }
 
 module _ (n : ℕ) (st : List ℤ) (room : List ℕ) (s : State) (L : Lawful s) where
@@ -154,9 +154,9 @@ module _ (n : ℕ) (st : List ℤ) (room : List ℕ) (s : State) (L : Lawful s) 
   converting a l t (convert_7 c i m r f e k) h = holds i (fails (λ x. mark_curve (s.standing n) c x m) (fails (λ x. none-some (s.standing n) (in_force c) x m) (given c m (holds r (fails f (is e k h))))))
   converting a l t (converted c i m r f e k) h = holds i (fails (λ x. mark_curve (s.standing n) c x m) (fails (λ x. none-some (s.standing n) (in_force c) x m) (given c m (holds r (holds f (filled e k h))))))
 
-  converting-one : One Converting
+  converting_one : One Converting
   unfolding Converting Inside
-  converting-one = ask (ask is_one (ask is_one (given-one (curve-same (s.standing n)) (λ c m. ask (ask (filled-one c (L.curves n c m) st room s) is_one) is_one)))) is_one
+  converting_one = ask (ask is_one (ask is_one (given_one (curve_same (s.standing n)) (λ c m. ask (ask (filled_one c (L.curves n c m) st room s) is_one) is_one)))) is_one
 
 -- ---- seal
 
@@ -176,9 +176,9 @@ module _ (E1 E2 : Block → Block) (m : Mode) (room : List ℕ) (s : State) wher
   sealing a l t (seal_11 u v r e k h) = fails u (fails v (holds r (is e k h)))
   sealing a l t (written u v r e k h) = fails u (fails v (fails (λ q. omega arith) (is e k h)))
 
-  sealing-one : One Sealing
+  sealing_one : One Sealing
   unfolding Sealing
-  sealing-one = ask is_one (ask is_one (ask is_one is_one))
+  sealing_one = ask is_one (ask is_one (ask is_one is_one))
 
 -- ---- taking in, and open
 
@@ -197,10 +197,10 @@ parts p = record { mode = p.mode; station = p.station; serial = p.serial; body =
 PartsOf : List ℕ → Parts → Type 0
 PartsOf bytes v = (p : Parcel bytes) × (v ≡ parts p)
 
-parts-one : (bytes : List ℕ) (v w : Parts) → PartsOf bytes v → PartsOf bytes w → v ≡ w
+parts_one : (bytes : List ℕ) (v w : Parts) → PartsOf bytes v → PartsOf bytes w → v ≡ w
 unfolding PartsOf parts
-parts-one bytes v w (p, e) (q, f) =
-    let a = parcel-one bytes bytes refl p q in
+parts_one bytes v w (p, e) (q, f) =
+    let a = parcel_one bytes bytes refl p q in
     let g : parts p ≡ parts q = λ i. record { mode = a.mode i; station = a.station i; serial = a.serial i; body = a.body i; tag = a.tag i } in
     e ∙ g ∙ sym f
 
@@ -240,32 +240,32 @@ module _ (E1 : Block → Block) (work : List ℕ) (s : State) where
   taking p a l t (take_in_5 ys r x b c m e h) k = reading p ys (outcome a l t) r x (bundled ys b (outcome a l t) (fails c (holds m (is e k h))))
   taking p a l t (taken_in_from ys r x b c m e h) k = reading p ys (outcome a l t) r x (bundled ys b (outcome a l t) (fails c (fails m (is e k h))))
 
-  merged-one : (xs : List Entry) → One (Merged xs)
+  merged_one : (xs : List Entry) → One (Merged xs)
   unfolding Merged
-  merged-one xs = ask is_one (ask is_one is_one)
+  merged_one xs = ask is_one (ask is_one is_one)
 
-  bundled-one : (ys : List ℕ) → One (Bundled ys)
+  bundled_one : (ys : List ℕ) → One (Bundled ys)
   unfolding Bundled
-  bundled-one ys = ask (given-one (λ a b (u, e) (v, f). one_list a b u v (e ∙ sym f)) (λ xs _. merged-one xs)) is_one
+  bundled_one ys = ask (given_one (λ a b (u, e) (v, f). one_list a b u v (e ∙ sym f)) (λ xs _. merged_one xs)) is_one
 
-  padded-one : (text : List ℕ) → One (Padded text)
+  padded_one : (text : List ℕ) → One (Padded text)
   unfolding Padded
-  padded-one text = ask (given-one (λ a b. pads_one a b text) (λ ys _. bundled-one ys)) is_one
+  padded_one text = ask (given_one (λ a b. pads_one a b text) (λ ys _. bundled_one ys)) is_one
 
-  taking-one : (v : Parts) → One (Taking v)
+  taking_one : (v : Parts) → One (Taking v)
   unfolding Taking
-  taking-one v = ask (given-one (λ a b x y. y.only a x.proper x.whole x.enciphers) (λ text _. padded-one text)) is_one
+  taking_one v = ask (given_one (λ a b x y. y.only a x.proper x.whole x.enciphers) (λ text _. padded_one text)) is_one
 
   TakingBytes : List ℕ → Outcome → Type 0
   TakingBytes bytes = Given Parts (PartsOf bytes) Taking
 
-  taking-bytes : (bytes : List ℕ) (a : Answer) (l : List ℕ) (t : State) → TakesIn E1 bytes work s a t → l ≡ zeros → TakingBytes bytes (outcome a l t)
+  taking_bytes : (bytes : List ℕ) (a : Answer) (l : List ℕ) (t : State) → TakesIn E1 bytes work s a t → l ≡ zeros → TakingBytes bytes (outcome a l t)
   unfolding TakingBytes PartsOf
-  taking-bytes bytes a l t h k = given (parts h.parcel) (h.parcel, refl) (taking h.parcel a l t h.taken k)
+  taking_bytes bytes a l t h k = given (parts h.parcel) (h.parcel, refl) (taking h.parcel a l t h.taken k)
 
-  taking-bytes_one : (bytes : List ℕ) → One (TakingBytes bytes)
+  taking_bytes_one : (bytes : List ℕ) → One (TakingBytes bytes)
   unfolding TakingBytes
-  taking-bytes_one bytes = given-one (parts-one bytes) (λ v _. taking-one v)
+  taking_bytes_one bytes = given_one (parts_one bytes) (λ v _. taking_one v)
 
   module _ (E2 : Block → Block) where
     Checking : Parts → Outcome → Type 0
@@ -281,9 +281,9 @@ module _ (E1 : Block → Block) (work : List ℕ) (s : State) where
     open_chain bytes a l t (open_10 p r f e h) k = holds r (holds p (given (parts p) (p, refl) (fails f (is e k h))))
     open_chain bytes a l t (opening p r g h) k = holds r (holds p (given (parts p) (p, refl) (holds g (taking p a l t h k))))
 
-    opening-one : (bytes : List ℕ) → One (Opening bytes)
+    opening_one : (bytes : List ℕ) → One (Opening bytes)
     unfolding Opening Checking
-    opening-one bytes = ask (ask (given-one (parts-one bytes) (λ v _. ask (taking-one v) is_one)) is_one) is_one
+    opening_one bytes = ask (ask (given_one (parts_one bytes) (λ v _. ask (taking_one v) is_one)) is_one) is_one
 
 -- ---- every call
 
@@ -292,9 +292,9 @@ apart a b l m t u e = (ap (λ o. o.answer) e, ap (λ o. o.lent) e, ap (λ o. o.a
 
 pub pinned : Pinned
 unfolding zeros
-pinned E1 E2 s L (publish n st fl) a b l m t u (x, v) (y, w) = apart a b l m t u (publishing-one n st fl s (outcome a l t) (outcome b m u) (publishing n st fl s a l t x v) (publishing n st fl s b m u y w))
-pinned E1 E2 s L (withdraw n) a b l m t u (x, v) (y, w) = apart a b l m t u (withdrawing-one n s (outcome a l t) (outcome b m u) (withdrawing n s a l t x v) (withdrawing n s b m u y w))
-pinned E1 E2 s L (convert n st room) a b l m t u (x, v) (y, w) = apart a b l m t u (converting-one n st room s L (outcome a l t) (outcome b m u) (converting n st room s L a l t x v) (converting n st room s L b m u y w))
-pinned E1 E2 s L (seal k room) a b l m t u x y = apart a b l m t u (sealing-one E1 E2 k room s (outcome a l t) (outcome b m u) (sealing E1 E2 k room s a l t x) (sealing E1 E2 k room s b m u y))
-pinned E1 E2 s L (open_parcel bytes work) a b l m t u (x, v) (y, w) = apart a b l m t u (opening-one E1 work s E2 bytes (outcome a l t) (outcome b m u) (open_chain E1 work s E2 bytes a l t x v) (open_chain E1 work s E2 bytes b m u y w))
-pinned E1 E2 s L (take_in bytes work) a b l m t u (x, v) (y, w) = apart a b l m t u (taking-bytes_one E1 work s bytes (outcome a l t) (outcome b m u) (taking-bytes E1 work s bytes a l t x v) (taking-bytes E1 work s bytes b m u y w))
+pinned E1 E2 s L (publish n st fl) a b l m t u (x, v) (y, w) = apart a b l m t u (publishing_one n st fl s (outcome a l t) (outcome b m u) (publishing n st fl s a l t x v) (publishing n st fl s b m u y w))
+pinned E1 E2 s L (withdraw n) a b l m t u (x, v) (y, w) = apart a b l m t u (withdrawing_one n s (outcome a l t) (outcome b m u) (withdrawing n s a l t x v) (withdrawing n s b m u y w))
+pinned E1 E2 s L (convert n st room) a b l m t u (x, v) (y, w) = apart a b l m t u (converting_one n st room s L (outcome a l t) (outcome b m u) (converting n st room s L a l t x v) (converting n st room s L b m u y w))
+pinned E1 E2 s L (seal k room) a b l m t u x y = apart a b l m t u (sealing_one E1 E2 k room s (outcome a l t) (outcome b m u) (sealing E1 E2 k room s a l t x) (sealing E1 E2 k room s b m u y))
+pinned E1 E2 s L (open_parcel bytes work) a b l m t u (x, v) (y, w) = apart a b l m t u (opening_one E1 work s E2 bytes (outcome a l t) (outcome b m u) (open_chain E1 work s E2 bytes a l t x v) (open_chain E1 work s E2 bytes b m u y w))
+pinned E1 E2 s L (take_in bytes work) a b l m t u (x, v) (y, w) = apart a b l m t u (taking_bytes_one E1 work s bytes (outcome a l t) (outcome b m u) (taking_bytes E1 work s bytes a l t x v) (taking_bytes E1 work s bytes b m u y w))

@@ -17,18 +17,18 @@ tally_grows f g h (suc m) = let ih = tally_grows f g h m in go (f (suc m)) (g (s
     go false true k i = omega arith
     go false false k i = omega arith
 
-one-most : (b : Bool) → one_if b ≤ 1
-one-most true = omega arith
-one-most false = omega arith
+one_most : (b : Bool) → one_if b ≤ 1
+one_most true = omega arith
+one_most false = omega arith
 
 -- two tests that differ at one number
-pub tally-one : (f g : ℕ → Bool) (n : ℕ) → ((m : ℕ) → (m ≡ n → ⊥) → f m ≡ g m) → (m : ℕ) → (tally f m ≤ tally g m + 1) × (m < n → tally f m ≡ tally g m)
+pub tally_one : (f g : ℕ → Bool) (n : ℕ) → ((m : ℕ) → (m ≡ n → ⊥) → f m ≡ g m) → (m : ℕ) → (tally f m ≤ tally g m + 1) × (m < n → tally f m ≡ tally g m)
 unfolding tally
-tally-one f g n h zero = (omega arith, λ _. refl)
-tally-one f g n h (suc m) = let ih = tally-one f g n h m in go ih (ℕ_discrete (suc m) n)
+tally_one f g n h zero = (omega arith, λ _. refl)
+tally_one f g n h (suc m) = let ih = tally_one f g n h m in go ih (ℕ_discrete (suc m) n)
   where
     go : (tally f m ≤ tally g m + 1) × (m < n → tally f m ≡ tally g m) → Dec (suc m ≡ n) → (tally f m + one_if (f (suc m)) ≤ tally g m + one_if (g (suc m)) + 1) × (suc m < n → tally f m + one_if (f (suc m)) ≡ tally g m + one_if (g (suc m)))
-    go ih (yes e) = let q : m < n = omega arith in (omega (arith, ih.1 q, one-most (f (suc m))), λ l. absurd (omega arith))
+    go ih (yes e) = let q : m < n = omega arith in (omega (arith, ih.1 q, one_most (f (suc m))), λ l. absurd (omega arith))
     go ih (no d) = let q : one_if (f (suc m)) ≡ one_if (g (suc m)) = ap one_if (h (suc m) d) in (omega (arith, q, ih.0), λ l. let r : m < n = omega arith in omega (arith, q, ih.1 r))
 
 -- a test that passes only where one of two others does

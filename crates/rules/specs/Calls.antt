@@ -134,8 +134,8 @@ pub record Clash (s : State) (xs : List Entry) : Type 0 where
   pub number : ℕ
   pub here : Curve
   pub arriving : Curve
-  pub in_force_lem : s.standing number ≡ Some (in_force here)
-  pub told-other : told xs number ≡ Some (in_force arriving)
+  pub now_in_force : s.standing number ≡ Some (in_force here)
+  pub told_other : told xs number ≡ Some (in_force arriving)
   pub differ : here ≡ arriving → ⊥
 
 -- more new curves than places after the bundle's withdrawals

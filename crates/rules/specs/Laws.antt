@@ -40,7 +40,7 @@ pub record BundleLaws : Type 0 where
   pub one_list : OneList
   pub fits : BundleFits
   pub copy_of : CopyOf
-  pub one-padding : OnePadding
+  pub one_padding : OnePadding
 
 pub record SealedReads (E1 E2 : Block → Block) (m : Mode) (s : State) : Type 0 where
   pub size : Sized (parcel_of E1 E2 m s)

@@ -49,10 +49,10 @@ pub record Parcel (bytes : List ℕ) : Type 0 where
   pub body : List ℕ
   pub tag : List ℕ
   pub not_ecb : mode ≡ Ecb → ⊥
-  pub station-fits : station ≤ 65535
-  pub serial-least : 1 ≤ serial
-  pub serial-most : serial ≤ 65535
-  pub tag-length : length tag ≡ 8
+  pub station_fits : station ≤ 65535
+  pub serial_least : 1 ≤ serial
+  pub serial_most : serial ≤ 65535
+  pub tag_length : length tag ≡ 8
   pub is : bytes ≡ header mode station serial ++ (body ++ tag)
 
 abbrev pub Tagged : {bytes : List ℕ} → (Block → Block) → Parcel bytes → Type 0

@@ -45,8 +45,8 @@ abbrev pub places_in_use : (ℕ → Option Standing) → ℕ
 places_in_use f = count (λ n. is_curve (f n))
 
 pub record Lawful (s : State) : Type 0 where
-  pub station-fits : s.station ≤ 65535
-  pub serial-fits : s.serial ≤ 65535
+  pub station_fits : s.station ≤ 65535
+  pub serial_fits : s.serial ≤ 65535
   pub outside : (n : ℕ) → (Number n → ⊥) → s.standing n ≡ None
   pub curves : (n : ℕ) (c : Curve) → s.standing n ≡ Some (in_force c) → LawfulCurve c
   pub places : places_in_use s.standing ≤ 32

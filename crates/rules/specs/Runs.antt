@@ -105,7 +105,7 @@ pub record PublishedBefore (log : List Event) (p n : ℕ) (c : Curve) : Type 0 w
 -- what a convert says, where each accepted parcel came from a seal: 2 exactly where the withdrawal is known; and accepted,
 -- the flows of the formula at its stages for the points of one earlier publish of that number
 pub record ConvertSays (log : List Event) (p : ℕ) (e : Event) (n : ℕ) (stages : List ℤ) (room : List ℕ) : Type 0 where
-  pub only-known : e.answer ≡ refused 2 → Knows log p e.who n
+  pub only_known : e.answer ≡ refused 2 → Knows log p e.who n
   pub always_known : Knows log p e.who n → e.answer ≡ refused 2
   pub flows : e.answer ≡ accepted → (c : Curve) × PublishedBefore log p n c × Flows c stages room e.lent
 
@@ -114,9 +114,9 @@ FlowsComeFromAPublish log = AllFromSeals log → (p : ℕ) (e : Event) (n : ℕ)
     → ConvertSays log p e n stages room
 
 pub record Promises (log : List Event) : Type 0 where
-  pub withdrawn-stays_withdrawn : WithdrawnStaysWithdrawn log
-  pub starting_blocks_differ_lem : StartingBlocksDiffer log
-  pub flows_come_from_a_publish_lem : FlowsComeFromAPublish log
+  pub withdrawn_stays_withdrawn : WithdrawnStaysWithdrawn log
+  pub starting_blocks_differ : StartingBlocksDiffer log
+  pub flows_come_from_a_publish : FlowsComeFromAPublish log
 
 -- ---- one call more
 

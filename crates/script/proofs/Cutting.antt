@@ -44,10 +44,10 @@ ahead : List ℕ → List (List ℕ) → List (List ℕ)
 ahead w [] = w ∷ []
 ahead w (p ∷ ps) = (w ++ p) ∷ ps
 
-longer-ahead : (c : ℕ) (w : List ℕ) (ps : List (List ℕ)) → longer c (ahead w ps) ≡ ahead (c ∷ w) ps
+longer_ahead : (c : ℕ) (w : List ℕ) (ps : List (List ℕ)) → longer c (ahead w ps) ≡ ahead (c ∷ w) ps
 unfolding ahead
-longer-ahead c w [] = refl
-longer-ahead c w (p ∷ ps) = refl
+longer_ahead c w [] = refl
+longer_ahead c w (p ∷ ps) = refl
 
 longer-none : (c : ℕ) (ps : List (List ℕ)) → longer c ps ≡ ahead (c ∷ []) ps
 unfolding ahead
@@ -61,20 +61,20 @@ pieces-solid c cs h =
     ∙ ap (λ b. cond b ([] ∷ pieces cs) (longer c (pieces cs))) (solid_no_blank c h)
 
 -- the first n bytes belong to one piece
-pieces-ahead : (n : ℕ) (c : ℕ) (cs : List ℕ) → n ≤ length cs → ((k : ℕ) → k < suc n → solid (get_or (c ∷ cs) k 0) ≡ true)
+pieces_ahead : (n : ℕ) (c : ℕ) (cs : List ℕ) → n ≤ length cs → ((k : ℕ) → k < suc n → solid (get_or (c ∷ cs) k 0) ≡ true)
     → pieces (c ∷ cs) ≡ ahead (c ∷ take n cs) (pieces (drop n cs))
-pieces-ahead zero c cs l h = pieces-solid c cs (h 0 (omega arith)) ∙ longer-none c (pieces cs)
-pieces-ahead (suc n) c [] l h = absurd (omega (arith, l))
-pieces-ahead (suc n) c (d ∷ cs) l h =
+pieces_ahead zero c cs l h = pieces-solid c cs (h 0 (omega arith)) ∙ longer-none c (pieces cs)
+pieces_ahead (suc n) c [] l h = absurd (omega (arith, l))
+pieces_ahead (suc n) c (d ∷ cs) l h =
     pieces-solid c (d ∷ cs) (h 0 (omega arith))
-    ∙ ap (longer c) (pieces-ahead n d cs (omega (arith, l)) (λ k b. h (suc k) (omega (arith, b))))
-    ∙ longer-ahead c (d ∷ take n cs) (pieces (drop n cs))
+    ∙ ap (longer c) (pieces_ahead n d cs (omega (arith, l)) (λ k b. h (suc k) (omega (arith, b))))
+    ∙ longer_ahead c (d ∷ take n cs) (pieces (drop n cs))
 
 -- what no byte of a word begins has an empty first piece, which is no word
-some-ahead : (c : ℕ) (w xs : List ℕ) → (0 < length xs → solid (get_or xs 0 0) ≡ false) → some (ahead (c ∷ w) (pieces xs)) ≡ (c ∷ w) ∷ words xs
+some_ahead : (c : ℕ) (w xs : List ℕ) → (0 < length xs → solid (get_or xs 0 0) ≡ false) → some (ahead (c ∷ w) (pieces xs)) ≡ (c ∷ w) ∷ words xs
 unfolding words pieces some ahead
-some-ahead c w [] h = ap (λ v. (c ∷ v) ∷ []) (append-nil w)
-some-ahead c w (x ∷ xs) h = by (eqb x 35) (blank x) refl refl
+some_ahead c w [] h = ap (λ v. (c ∷ v) ∷ []) (append-nil w)
+some_ahead c w (x ∷ xs) h = by (eqb x 35) (blank x) refl refl
   where
     apart : (y : ℕ) → solid y ≡ false → eqb y 35 ≡ false → blank y ≡ false → ◌≡◌ {A = ℕ} 0 1
     apart y p q r = grind (arith, nat_tests)
@@ -87,14 +87,14 @@ some-ahead c w (x ∷ xs) h = by (eqb x 35) (blank x) refl refl
     by false false p q = absurd (omega (arith, apart x (h (omega arith)) p q))
 
 -- a line that begins with n bytes of a word and no more
-pub words-first : (n : ℕ) (xs : List ℕ) → 0 < n → n ≤ length xs → ((k : ℕ) → k < n → solid (get_or xs k 0) ≡ true)
+pub words_first : (n : ℕ) (xs : List ℕ) → 0 < n → n ≤ length xs → ((k : ℕ) → k < n → solid (get_or xs k 0) ≡ true)
     → (n < length xs → solid (get_or xs n 0) ≡ false) → words xs ≡ take n xs ∷ words (drop n xs)
 unfolding words
-words-first zero xs o l h f = absurd (omega (arith, o))
-words-first (suc n) [] o l h f = absurd (omega (arith, l))
-words-first (suc n) (c ∷ cs) o l h f =
-    ap some (pieces-ahead n c cs (omega (arith, l)) h)
-    ∙ some-ahead c (take n cs) (drop n cs) (λ b. ap solid (get_or-drop n cs 0 0 ∙ ap (λ k. get_or cs k 0) (omega arith)) ∙ f (omega (arith, b, length-drop n cs)))
+words_first zero xs o l h f = absurd (omega (arith, o))
+words_first (suc n) [] o l h f = absurd (omega (arith, l))
+words_first (suc n) (c ∷ cs) o l h f =
+    ap some (pieces_ahead n c cs (omega (arith, l)) h)
+    ∙ some_ahead c (take n cs) (drop n cs) (λ b. ap solid (get_or-drop n cs 0 0 ∙ ap (λ k. get_or cs k 0) (omega arith)) ∙ f (omega (arith, b, length-drop n cs)))
 
 -- a line behind its blanks, of which there are b
 module _ (line xs : List ℕ) (b : ℕ) (is : xs ≡ drop b line) (within : b ≤ length line)
@@ -109,4 +109,4 @@ module _ (line xs : List ℕ) (b : ℕ) (is : xs ≡ drop b line) (within : b �
   pub word_first : (n : ℕ) → (n ≡ 0 → ⊥) → n ≤ length xs → ((k : ℕ) → k < n → solid (get_or xs k 0) ≡ true)
       → (n < length xs → solid (get_or xs n 0) ≡ false) → words line ≡ take n xs ∷ words (drop n xs)
   word_first n Some-of l h f =
-      words_skip b line within before ∙ ap words (sym is) ∙ words-first n xs (omega (arith, Some-of)) l h f
+      words_skip b line within before ∙ ap words (sym is) ∙ words_first n xs (omega (arith, Some-of)) l h f

@@ -16,24 +16,24 @@ find_past : (n : List ℕ) (e : List ℕ × Meaning) (s : State) → bytes_eq e.
 unfolding find
 find_past n e s h = ap (λ b. cond b (Some e.1) (find n s)) h
 
-find-here : (n : List ℕ) (e : List ℕ × Meaning) (s : State) → bytes_eq e.0 n ≡ true → find n (e ∷ s) ≡ Some e.1
+find_here : (n : List ℕ) (e : List ℕ × Meaning) (s : State) → bytes_eq e.0 n ≡ true → find n (e ∷ s) ≡ Some e.1
 unfolding find
-find-here n e s h = ap (λ b. cond b (Some e.1) (find n s)) h
+find_here n e s h = ap (λ b. cond b (Some e.1) (find n s)) h
 
-put-past : (n : List ℕ) (m : Meaning) (e : List ℕ × Meaning) (s : State) → bytes_eq e.0 n ≡ false → put n m (e ∷ s) ≡ e ∷ put n m s
+put_past : (n : List ℕ) (m : Meaning) (e : List ℕ × Meaning) (s : State) → bytes_eq e.0 n ≡ false → put n m (e ∷ s) ≡ e ∷ put n m s
 unfolding put
-put-past n m e s h = ap (λ b. cond b ((n, m) ∷ s) (e ∷ put n m s)) h
+put_past n m e s h = ap (λ b. cond b ((n, m) ∷ s) (e ∷ put n m s)) h
 
-put-here : (n : List ℕ) (m : Meaning) (e : List ℕ × Meaning) (s : State) → bytes_eq e.0 n ≡ true → put n m (e ∷ s) ≡ (n, m) ∷ s
+put_here : (n : List ℕ) (m : Meaning) (e : List ℕ × Meaning) (s : State) → bytes_eq e.0 n ≡ true → put n m (e ∷ s) ≡ (n, m) ∷ s
 unfolding put
-put-here n m e s h = ap (λ b. cond b ((n, m) ∷ s) (e ∷ put n m s)) h
+put_here n m e s h = ap (λ b. cond b ((n, m) ∷ s) (e ∷ put n m s)) h
 
 pub left_more : (n : List ℕ) (s : State) (i : ℕ) (e : List ℕ × Meaning) → i < length s → e ≡ get_or s i e → bytes_eq e.0 n ≡ false → Left n s i → Left n s (i + 1)
 left_more n s i e h is other l =
     let cut : drop i s ≡ e ∷ drop (i + 1) s = drop_more s i e h ∙ ap (λ x. x ∷ drop (i + 1) s) (sym is) in
     let front : take (i + 1) s ≡ take i s ++ e ∷ [] = take_more s i e h ∙ ap (λ x. take i s ++ x ∷ []) (sym is) in (
       sym (ap (find n) cut ∙ find_past n e (drop (i + 1) s) other) ∙ l.0,
-      λ m. l.1 m ∙ ap (λ x. take i s ++ put n m x) cut ∙ ap (λ x. take i s ++ x) (put-past n m e (drop (i + 1) s) other)
+      λ m. l.1 m ∙ ap (λ x. take i s ++ put n m x) cut ∙ ap (λ x. take i s ++ x) (put_past n m e (drop (i + 1) s) other)
           ∙ sym (append_assoc (take i s) (e ∷ []) (put n m (drop (i + 1) s))) ∙ ap (λ x. x ++ put n m (drop (i + 1) s)) (sym front),
     )
 
@@ -45,10 +45,10 @@ left_here n s i e h is same l =
       found = λ d.
           let cut : drop i s ≡ get_or s i d ∷ drop (i + 1) s = drop_more s i d h in
           let at : e ≡ get_or s i d = is ∙ get_or_default s i e d h in
-          sym l.0 ∙ ap (find n) cut ∙ find-here n (get_or s i d) (drop (i + 1) s) (ap (λ x. bytes_eq x.0 n) (sym at) ∙ same);
+          sym l.0 ∙ ap (find n) cut ∙ find_here n (get_or s i d) (drop (i + 1) s) (ap (λ x. bytes_eq x.0 n) (sym at) ∙ same);
       putting = λ m.
           let cut : drop i s ≡ e ∷ drop (i + 1) s = drop_more s i e h ∙ ap (λ x. x ∷ drop (i + 1) s) (sym is) in
-          l.1 m ∙ ap (λ x. take i s ++ put n m x) cut ∙ ap (λ x. take i s ++ x) (put-here n m e (drop (i + 1) s) same)
+          l.1 m ∙ ap (λ x. take i s ++ put n m x) cut ∙ ap (λ x. take i s ++ x) (put_here n m e (drop (i + 1) s) same)
           ∙ ap (λ k. take i s ++ (n, m) ∷ drop k s) (add-one i) ∙ sym (set_split s i (n, m) h);
     }
 

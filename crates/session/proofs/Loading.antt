@@ -19,8 +19,8 @@ stood None m e = let z : ◌≡◌ {A = ℕ} 0 1 = cc in absurd (omega (arith, z
 stood (Some x) m e = refl
 
 -- a name that stands for a keyed cipher stands for something
-pub restood-keyed : (n : List ℕ) (s : State) (m x : Meaning) → keyed_at n s ≡ Ok m → restood n x s ≡ put n x s
-restood-keyed n s m x e = ap (λ b. cond b (put n x s) s) (stood (find n s) m e)
+pub restood_keyed : (n : List ℕ) (s : State) (m x : Meaning) → keyed_at n s ≡ Ok m → restood n x s ≡ put n x s
+restood_keyed n s m x e = ap (λ b. cond b (put n x s) s) (stood (find n s) m e)
 
 -- a name that stands at a place stands for something
 pub restood_at : (n : List ℕ) (s : State) (i : ℕ) (d : List ℕ × Meaning) (x : Meaning) → At n s i → set s i ((get_or s i d).0, x) ≡ restood n x s

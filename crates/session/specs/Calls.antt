@@ -88,8 +88,8 @@ pub data Deciphered (m : List ℕ) (E : Block → Block) (c : Block) (z : List �
 
 pub data Enciphers (n : List ℕ) (w : Working) (s : State) (r : Answer) (t : State) : Type 0 where
   unknown : find n s ≡ None → r ≡ unreadable why.UnknownName → t ≡ s → Enciphers n w s r t
-  enciphers-block : (x : Meaning) (b : Block) → w ≡ one b → find n s ≡ Some x → r ≡ Accepted (value.Block (x.enc b)) → t ≡ s → Enciphers n w s r t
-  enciphers-text : (x : Meaning) (m : List ℕ) (c : Block) (z : List ℕ) → w ≡ text m c z → find n s ≡ Some x → Enciphered m x.enc c z r → t ≡ s → Enciphers n w s r t
+  enciphers_block : (x : Meaning) (b : Block) → w ≡ one b → find n s ≡ Some x → r ≡ Accepted (value.Block (x.enc b)) → t ≡ s → Enciphers n w s r t
+  enciphers_text : (x : Meaning) (m : List ℕ) (c : Block) (z : List ℕ) → w ≡ text m c z → find n s ≡ Some x → Enciphered m x.enc c z r → t ≡ s → Enciphers n w s r t
 
 pub data Deciphers (n : List ℕ) (w : Working) (s : State) (r : Answer) (t : State) : Type 0 where
   unknown : find n s ≡ None → r ≡ unreadable why.UnknownName → t ≡ s → Deciphers n w s r t

@@ -9,7 +9,6 @@ ghost use Rattle.session.specs.Performed.{Texted};
 
 use crate::answer::{Answer, Value};
 use chosen::Chosen;
-use cipher::BlockCipher;
 use cipher::block::Block;
 use modes::Mode;
 use refusal::Refusal;

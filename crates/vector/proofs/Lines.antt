@@ -5,7 +5,7 @@ use Rattle.cipher.specs.declared.block.Block.{Block}
 use Rattle.cipher.specs.Bytes.{block_of, bytes_of}
 use Rattle.cipher.proofs.Bytes.{block_of-bytes_of}
 use Rattle.hex_digits.specs.Digits.{spelled, Unspelt, NoBlock}
-use Rattle.hex_digits.proofs.Spelling.{length-spelled, spelled-one, bytes_of-bytes}
+use Rattle.hex_digits.proofs.Spelling.{length-spelled, spelled_one, bytes_of-bytes}
 use Rattle.vector.specs.Lines.{Parted, Whole, Vector, Foreign, Serves, hyphen}
 
 -- a line is parted in one way
@@ -19,8 +19,8 @@ parted_one n line a b c d p q =
 pub whole_short : (n : ℕ) (line : List ℕ) → length line ≤ n → Whole n line
 whole_short n line h a b p = omega (arith, length-append a (32 ∷ b), ap length p.1, p.0)
 
-pub whole-other : (n : ℕ) (line : List ℕ) → (get_or line n 0 ≡ 32 → ⊥) → Whole n line
-whole-other n line h a b p = h (ap (λ xs. get_or xs n 0) p.1 ∙ get_or_at a 32 b 0 n p.0)
+pub whole_other : (n : ℕ) (line : List ℕ) → (get_or line n 0 ≡ 32 → ⊥) → Whole n line
+whole_other n line h a b p = h (ap (λ xs. get_or xs n 0) p.1 ∙ get_or_at a 32 b 0 n p.0)
 
 pub parted_at : (n : ℕ) (line : List ℕ) → n < length line → get_or line n 0 ≡ 32 → Parted n line (take n line) (drop (n + 1) line)
 parted_at n line h e = (
@@ -50,8 +50,8 @@ serves_foreign E n line f = record { ciphertext = λ key b v. absurd (f key b v)
 vector_one : (n : ℕ) (line k l : List ℕ) (b c : Block) → Vector n line k b → Vector n line l c → (k ≡ l) × (b ≡ c)
 vector_one n line k l b c v w =
     let p = parted_one (2 * n) line _ _ _ _ (parts n line k b v) (parts n line l c w) in
-    let s : bytes_of b ≡ bytes_of c = spelled-one (bytes_of b) (bytes_of c) (bytes_of-bytes b) (bytes_of-bytes c) p.1 in (
-      spelled-one k l v.bytes w.bytes p.0,
+    let s : bytes_of b ≡ bytes_of c = spelled_one (bytes_of b) (bytes_of c) (bytes_of-bytes b) (bytes_of-bytes c) p.1 in (
+      spelled_one k l v.bytes w.bytes p.0,
       sym (block_of-bytes_of b v.sound) ∙ ap block_of s ∙ block_of-bytes_of c w.sound,
     )
 

@@ -38,6 +38,6 @@ pub record Serves (E : List ℕ → Block → Block) (n : ℕ) (line reply : Lis
   pub other : Foreign n line → reply ≡ hyphen
 
 pub record Answered (line reply : List ℕ) : Type 0 where
-  pub by-blowfish : (key : List ℕ) (b : Block) → Vector 8 line key b → reply ≡ spelled (bytes_of (blowfish.enciphered (scheduled initial key) b))
-  pub by-xtea : (key : List ℕ) (b : Block) → Vector 16 line key b → reply ≡ spelled (bytes_of (xtea.enciphered (key_words key) b))
+  pub by_blowfish : (key : List ℕ) (b : Block) → Vector 8 line key b → reply ≡ spelled (bytes_of (blowfish.enciphered (scheduled initial key) b))
+  pub by_xtea : (key : List ℕ) (b : Block) → Vector 16 line key b → reply ≡ spelled (bytes_of (xtea.enciphered (key_words key) b))
   pub other : Foreign 8 line → Foreign 16 line → reply ≡ hyphen

@@ -8,17 +8,17 @@ use Rattle.rules.specs.Parcels.{parcel_of}
 use Rattle.worked.specs.Season.{curve_k}
 use Rattle.worked.specs.RulesTable.{five_and_seven}
 
-pub new-bundle : (station : ℕ) → bundle_of (new_state station) ≡ 0 ∷ 0 ∷ 0 ∷ 0 ∷ []
+pub new_bundle : (station : ℕ) → bundle_of (new_state station) ≡ 0 ∷ 0 ∷ 0 ∷ 0 ∷ []
 unfolding entries_up_to
-new-bundle station = refl
+new_bundle station = refl
 
-pub new-padded : (station : ℕ) → padded (bundle_of (new_state station)) ≡ 0 ∷ 0 ∷ 0 ∷ 0 ∷ 4 ∷ 4 ∷ 4 ∷ 4 ∷ []
+pub new_padded : (station : ℕ) → padded (bundle_of (new_state station)) ≡ 0 ∷ 0 ∷ 0 ∷ 0 ∷ 4 ∷ 4 ∷ 4 ∷ 4 ∷ []
 unfolding entries_up_to
-new-padded station = refl
+new_padded station = refl
 
-pub new-parcel : (E1 E2 : Block → Block) (m : Mode) (station : ℕ) → length (parcel_of E1 E2 m (new_state station)) ≡ 24
+pub new_parcel : (E1 E2 : Block → Block) (m : Mode) (station : ℕ) → length (parcel_of E1 E2 m (new_state station)) ≡ 24
 unfolding entries_up_to
-new-parcel E1 E2 m station = refl
+new_parcel E1 E2 m station = refl
 
 pub seven_bundle : (station : ℕ) → bundle_of (put 7 withdrawn (new_state station)) ≡ 0 ∷ 1 ∷ 0 ∷ 0 ∷ 0 ∷ 7 ∷ 2 ∷ 0 ∷ []
 unfolding entries_up_to
@@ -28,6 +28,6 @@ pub seven_parcel : (E1 E2 : Block → Block) (m : Mode) (station : ℕ) → leng
 unfolding entries_up_to
 seven_parcel E1 E2 m station = refl
 
-pub five_and_seven_lem : (station : ℕ) → bundle_of (put 7 withdrawn (put 5 (in_force curve_k) (new_state station))) ≡ five_and_seven
+pub bundle_of_five_and_seven : (station : ℕ) → bundle_of (put 7 withdrawn (put 5 (in_force curve_k) (new_state station))) ≡ five_and_seven
 unfolding entries_up_to
-five_and_seven_lem station = refl
+bundle_of_five_and_seven station = refl

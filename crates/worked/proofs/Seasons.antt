@@ -16,8 +16,8 @@ use Rattle.rules.specs.Calls.{Call, Answer, AllCovered, raised, newly_marked, ne
 use Rattle.rules.specs.Runs.{Event, At, Run, AcceptedOpen, SealedBefore, Knows, by_withdraw, by_open}
 use Rattle.rules.specs.Laws.{meets, joined_with, Agree}
 use Rattle.rules.proofs.Extends.{every_call}
-use Rattle.rules.proofs.Lawfulness.{lawful-new, stays-lawful}
-use Rattle.rules.proofs.Meetings.{sealed-is_taken_in}
+use Rattle.rules.proofs.Lawfulness.{lawful_new, stays_lawful}
+use Rattle.rules.proofs.Meetings.{sealed_is_taken_in}
 use Rattle.worked.specs.Season.{stages_k, flows_k, curve_k, upper_published, upper_withdrawn, middle_hearing, middle_knowing, middle_late, lower_hearing, lower_knowing, event, zeros, seals, season, Season, SeasonIsARun}
 use Rattle.worked.proofs.Curves.{k_is_lawful, k_at_100}
 
@@ -29,18 +29,18 @@ five = (omega arith, omega arith)
 never : {X : Type 0} (o : Option Standing) (c : Curve) → o ≡ None → o ≡ Some (in_force c) → X
 never o c h k = absurd (let z : ◌≡◌ {A = ℕ} 0 1 = cc (h, k) in omega arith)
 
-marked-curve : {X : Type 0} (c : Curve) → ◌≡◌ {A = Option Standing} (Some withdrawn) (Some (in_force c)) → X
-marked-curve c h = absurd (let z : ◌≡◌ {A = ℕ} 0 1 = cc h in omega arith)
+marked_curve : {X : Type 0} (c : Curve) → ◌≡◌ {A = Option Standing} (Some withdrawn) (Some (in_force c)) → X
+marked_curve c h = absurd (let z : ◌≡◌ {A = ℕ} 0 1 = cc h in omega arith)
 
 -- nothing but the number 5 stands there
 abbrev OnlyFive : State → Type 0
 OnlyFive s = (n : ℕ) → (n ≡ 5 → ⊥) → s.standing n ≡ None
 
-published-five : OnlyFive upper_published
-published-five n d = let q = ne_eqb n 5 d in rw q
+published_five : OnlyFive upper_published
+published_five n d = let q = ne_eqb n 5 d in rw q
 
-withdrawn-five : OnlyFive upper_withdrawn
-withdrawn-five n d = let q = ne_eqb n 5 d in rw q
+withdrawn_five : OnlyFive upper_withdrawn
+withdrawn_five n d = let q = ne_eqb n 5 d in rw q
 
 late_five : OnlyFive middle_late
 late_five n d = let q = ne_eqb n 5 d in rw q
@@ -92,10 +92,10 @@ module _ (E1 D1 E2 D2 : Block → Block) (k : Inverse E1 D1) (l : Inverse E2 D2)
   -- a register opens what another sealed
   opens : (m : Mode) (other s : State) → Lawful other → (m ≡ Ecb → ⊥) → other.serial < 65535 → length (parcel_of E1 E2 m other) ≤ 80 → Agree s other
       → Done s (open_parcel (parcel_of E1 E2 m other) zeros) (opened (meets newly_marked s other) (meets new_curve s other) (meets passed_over s other)) zeros (joined_with other s)
-  opens m other s L u lt r g = done (sealed-is_taken_in E1 D1 E2 k m other L u lt s g zeros r)
+  opens m other s L u lt r g = done (sealed_is_taken_in E1 D1 E2 k m other L u lt s g zeros r)
 
   lawfully : {s t : State} {q : Call} {a : Answer} {lent : List ℕ} → Lawful s → Done s q a lent t → Lawful t
-  lawfully {s} {t} {q} {a} {lent} L (done d) = stays-lawful E1 E2 s L q a lent t d
+  lawfully {s} {t} {q} {a} {lent} L (done d) = stays_lawful E1 E2 s L q a lent t d
 
   cbc : Cbc ≡ Ecb → ⊥
   cbc h = let z : ◌≡◌ {A = ℕ} 0 1 = cc h in omega arith
@@ -108,49 +108,49 @@ module _ (E1 D1 E2 D2 : Block → Block) (k : Inverse E1 D1) (l : Inverse E2 D2)
 
   -- ---- what the registers hold, parcel by parcel
 
-  published-lawful : Lawful upper_published
-  published-lawful = lawfully (lawful-new (new_state 11) refl (omega arith)) publishing
+  published_lawful : Lawful upper_published
+  published_lawful = lawfully (lawful_new (new_state 11) refl (omega arith)) publishing
 
-  published-long : length (parcel_of E1 E2 Cbc upper_published) ≡ 56
+  published_long : length (parcel_of E1 E2 Cbc upper_published) ≡ 56
   unfolding entries_up_to
-  published-long = refl
+  published_long = refl
 
-  sealing-published : Done upper_published (seal Cbc zeros) (sealed (length (parcel_of E1 E2 Cbc upper_published)) 1 (start_of E1 11 1)) (parcel_of E1 E2 Cbc upper_published ++ drop (length (parcel_of E1 E2 Cbc upper_published)) zeros) (raised upper_published)
-  sealing-published = sealing Cbc upper_published cbc (omega arith) (omega (arith, published-long))
+  sealing_published : Done upper_published (seal Cbc zeros) (sealed (length (parcel_of E1 E2 Cbc upper_published)) 1 (start_of E1 11 1)) (parcel_of E1 E2 Cbc upper_published ++ drop (length (parcel_of E1 E2 Cbc upper_published)) zeros) (raised upper_published)
+  sealing_published = sealing Cbc upper_published cbc (omega arith) (omega (arith, published_long))
 
   middle_hears : Done (new_state 12) (open_parcel (parcel_of E1 E2 Cbc upper_published) zeros) (opened 0 1 0) zeros middle_hearing
   unfolding tally
   middle_hears =
-      opens Cbc upper_published (new_state 12) published-lawful cbc (omega arith) (omega (arith, published-long))
-      (agree (new_state 12) upper_published published-five (λ c d h _. never None c refl h) 1 0 refl refl (omega arith))
+      opens Cbc upper_published (new_state 12) published_lawful cbc (omega arith) (omega (arith, published_long))
+      (agree (new_state 12) upper_published published_five (λ c d h _. never None c refl h) 1 0 refl refl (omega arith))
 
-  withdrawn-lawful : Lawful upper_withdrawn
-  withdrawn-lawful = lawfully (lawfully published-lawful sealing-published) withdrawing
+  withdrawn_lawful : Lawful upper_withdrawn
+  withdrawn_lawful = lawfully (lawfully published_lawful sealing_published) withdrawing
 
-  withdrawn-long : length (parcel_of E1 E2 Cfb upper_withdrawn) ≡ 32
+  withdrawn_long : length (parcel_of E1 E2 Cfb upper_withdrawn) ≡ 32
   unfolding entries_up_to
-  withdrawn-long = refl
+  withdrawn_long = refl
 
   middle_learns : Done middle_hearing (open_parcel (parcel_of E1 E2 Cfb upper_withdrawn) zeros) (opened 1 0 0) zeros middle_knowing
   unfolding tally
   middle_learns =
-      opens Cfb upper_withdrawn middle_hearing withdrawn-lawful cfb (omega arith) (omega (arith, withdrawn-long))
-      (agree middle_hearing upper_withdrawn withdrawn-five (λ c d _ h. marked-curve d h) 0 0 refl refl (omega arith))
+      opens Cfb upper_withdrawn middle_hearing withdrawn_lawful cfb (omega arith) (omega (arith, withdrawn_long))
+      (agree middle_hearing upper_withdrawn withdrawn_five (λ c d _ h. marked_curve d h) 0 0 refl refl (omega arith))
 
-  middle-opens_late : Done middle_knowing (open_parcel (parcel_of E1 E2 Cbc upper_published) zeros) (opened 0 0 1) zeros middle_late
+  middle_opens_late : Done middle_knowing (open_parcel (parcel_of E1 E2 Cbc upper_published) zeros) (opened 0 0 1) zeros middle_late
   unfolding tally
-  middle-opens_late =
-      opens Cbc upper_published middle_knowing published-lawful cbc (omega arith) (omega (arith, published-long))
-      (agree middle_knowing upper_published published-five (λ c d h _. marked-curve c h) 0 0 refl refl (omega arith))
+  middle_opens_late =
+      opens Cbc upper_published middle_knowing published_lawful cbc (omega arith) (omega (arith, published_long))
+      (agree middle_knowing upper_published published_five (λ c d h _. marked_curve c h) 0 0 refl refl (omega arith))
 
   lower_hears : Done (new_state 13) (open_parcel (parcel_of E1 E2 Cbc upper_published) zeros) (opened 0 1 0) zeros lower_hearing
   unfolding tally
   lower_hears =
-      opens Cbc upper_published (new_state 13) published-lawful cbc (omega arith) (omega (arith, published-long))
-      (agree (new_state 13) upper_published published-five (λ c d h _. never None c refl h) 1 0 refl refl (omega arith))
+      opens Cbc upper_published (new_state 13) published_lawful cbc (omega arith) (omega (arith, published_long))
+      (agree (new_state 13) upper_published published_five (λ c d h _. never None c refl h) 1 0 refl refl (omega arith))
 
   late_lawful : Lawful middle_late
-  late_lawful = lawfully (lawfully (lawfully (lawful-new (new_state 12) refl (omega arith)) middle_hears) middle_learns) middle-opens_late
+  late_lawful = lawfully (lawfully (lawfully (lawful_new (new_state 12) refl (omega arith)) middle_hears) middle_learns) middle_opens_late
 
   late_long : length (parcel_of E1 E2 Ofb middle_late) ≡ 32
   unfolding entries_up_to
@@ -160,7 +160,7 @@ module _ (E1 D1 E2 D2 : Block → Block) (k : Inverse E1 D1) (l : Inverse E2 D2)
   unfolding tally
   lower_learns =
       opens Ofb middle_late lower_hearing late_lawful ofb (omega arith) (omega (arith, late_long))
-      (agree lower_hearing middle_late late_five (λ c d _ h. marked-curve d h) 0 0 refl refl (omega arith))
+      (agree lower_hearing middle_late late_five (λ c d _ h. marked_curve d h) 0 0 refl refl (omega arith))
 
   -- ---- one call after the other
 
@@ -225,15 +225,15 @@ module _ (E1 D1 E2 D2 : Block → Block) (k : Inverse E1 D1) (l : Inverse E2 D2)
       }
 
   spring : Stands (take 4 (season E1 E2)) (raised upper_published) middle_hearing (new_state 13)
-  spring = midway (midway (upstream (upstream start publishing) sealing-published) middle_hears) (converting middle_hearing refl)
+  spring = midway (midway (upstream (upstream start publishing) sealing_published) middle_hears) (converting middle_hearing refl)
 
   summer : Stands (take 9 (season E1 E2)) (raised upper_withdrawn) middle_late (new_state 13)
   summer =
       midway
       (midway
-      (midway (upstream (upstream spring withdrawing) (sealing Cfb upper_withdrawn cfb (omega arith) (omega (arith, withdrawn-long)))) middle_learns)
+      (midway (upstream (upstream spring withdrawing) (sealing Cfb upper_withdrawn cfb (omega arith) (omega (arith, withdrawn_long)))) middle_learns)
       (turned_away middle_knowing refl))
-      middle-opens_late
+      middle_opens_late
 
   autumn : Stands (season E1 E2) (raised upper_withdrawn) (raised middle_late) lower_knowing
   autumn =
@@ -298,5 +298,5 @@ module _ (E1 D1 E2 D2 : Block → Block) (k : Inverse E1 D1) (l : Inverse E2 D2)
         lower_knows = lower_knows 15 (omega arith);
       }
 
-pub season-is_a_run : SeasonIsARun
-season-is_a_run E1 D1 E2 D2 k l = whole E1 D1 E2 D2 k l
+pub season_is_a_run : SeasonIsARun
+season_is_a_run E1 D1 E2 D2 k l = whole E1 D1 E2 D2 k l

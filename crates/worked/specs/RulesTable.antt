@@ -30,13 +30,13 @@ pub record RulesTable : Type 0 where
   pub k_at_401 : (E1 E2 : Block → Block) → Does E1 E2 upper_published (convert 5 (pos 401 ∷ []) (0 ∷ [])) (refused 7) (0 ∷ []) upper_published
   pub k_at_minus_201 : (E1 E2 : Block → Block) → Does E1 E2 upper_published (convert 5 (negsuc 200 ∷ []) (0 ∷ [])) (refused 7) (0 ∷ []) upper_published
   -- a new register's bundle, padded, and the length of its parcel
-  pub new-bundle : (station : ℕ) → bundle_of (new_state station) ≡ 0 ∷ 0 ∷ 0 ∷ 0 ∷ []
-  pub new-padded : (station : ℕ) → padded (bundle_of (new_state station)) ≡ 0 ∷ 0 ∷ 0 ∷ 0 ∷ 4 ∷ 4 ∷ 4 ∷ 4 ∷ []
-  pub new-parcel : (E1 E2 : Block → Block) (m : Mode) (station : ℕ) → length (parcel_of E1 E2 m (new_state station)) ≡ 24
+  pub new_bundle : (station : ℕ) → bundle_of (new_state station) ≡ 0 ∷ 0 ∷ 0 ∷ 0 ∷ []
+  pub new_padded : (station : ℕ) → padded (bundle_of (new_state station)) ≡ 0 ∷ 0 ∷ 0 ∷ 0 ∷ 4 ∷ 4 ∷ 4 ∷ 4 ∷ []
+  pub new_parcel : (E1 E2 : Block → Block) (m : Mode) (station : ℕ) → length (parcel_of E1 E2 m (new_state station)) ≡ 24
   -- with only 7 withdrawn
   pub seven_bundle : (station : ℕ) → bundle_of (put 7 withdrawn (new_state station)) ≡ 0 ∷ 1 ∷ 0 ∷ 0 ∷ 0 ∷ 7 ∷ 2 ∷ 0 ∷ []
   pub seven_parcel : (E1 E2 : Block → Block) (m : Mode) (station : ℕ) → length (parcel_of E1 E2 m (put 7 withdrawn (new_state station))) ≡ 32
   -- with curve K in force as 5, and 7 withdrawn
-  pub five_and_seven_lem : (station : ℕ) → bundle_of (put 7 withdrawn (put 5 (in_force curve_k) (new_state station))) ≡ five_and_seven
+  pub bundle_of_five_and_seven : (station : ℕ) → bundle_of (put 7 withdrawn (put 5 (in_force curve_k) (new_state station))) ≡ five_and_seven
   -- a season at three stations
   pub season : SeasonIsARun

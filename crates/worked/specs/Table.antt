@@ -21,9 +21,9 @@ sixteen_bytes = 0 ∷ 1 ∷ 2 ∷ 3 ∷ 4 ∷ 5 ∷ 6 ∷ 7 ∷ 8 ∷ 9 ∷ 10 �
 
 pub record Table : Type 0 where
   -- a key of five bytes goes round and round
-  pub key_words_lem : (key_word_of five_bytes 0 ≡ 0x01020304) × (key_word_of five_bytes 1 ≡ 0x05010203) × (key_word_of five_bytes 2 ≡ 0x04050102)
+  pub words_of_a_key : (key_word_of five_bytes 0 ≡ 0x01020304) × (key_word_of five_bytes 1 ≡ 0x05010203) × (key_word_of five_bytes 2 ≡ 0x04050102)
   -- f where the boxes give FFFFFFFF, 2, 3 and 4
-  pub f_of-words : ◌≡◌ {A = ℕ} (combined 0xFFFFFFFF 2 3 4) 6
+  pub f_of_words : ◌≡◌ {A = ℕ} (combined 0xFFFFFFFF 2 3 4) 6
   -- the first cycle of XTEA, zero block and zero key
   pub first_cycle : cycled (key_words (replicate 16 0)) 0 (block 0 0) ≡ block 0 0x9E3779B9
   -- XTEA whole, under the key 000102 .. 0F, over 4142434445464748

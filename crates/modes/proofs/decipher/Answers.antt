@@ -2,7 +2,7 @@ use Rattle.std.proofs.Common.{ℕ, get_or, ◌∙◌, arith, w8, Fits, rules}
 use Rattle.std.proofs.ByRecursion.{All-from_get_or}
 use Rattle.cipher.specs.Blocks.{Sound}
 use Rattle.cipher.specs.Bytes.{Bytes}
-use Rattle.modes.proofs.Back.{one-text, goes_on}
+use Rattle.modes.proofs.Back.{one_text, goes_on}
 use Rattle.modes.proofs.decipher.Goals as goal
 
 pub returns : goal.returns
@@ -13,4 +13,4 @@ returns g c =
     let given : Bytes c.args.buffer.now = All-from_get_or _ _ 0 (λ i h. (fits i).fits) in
     let whole = c.if-not-whole.ensures in
     let done = c.run.ensures.written in
-    (whole, one-text k _ _ _ _ sound given whole done, c.run.ensures.next ∙ goes_on k _ _ _ _ sound given done)
+    (whole, one_text k _ _ _ _ sound given whole done, c.run.ensures.next ∙ goes_on k _ _ _ _ sound given done)

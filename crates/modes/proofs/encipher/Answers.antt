@@ -2,7 +2,7 @@ use Rattle.std.proofs.Common.{ℕ, get_or, ◌∙◌, arith, w8, Fits, rules}
 use Rattle.std.proofs.ByRecursion.{All-from_get_or}
 use Rattle.cipher.specs.Blocks.{Sound}
 use Rattle.cipher.specs.Bytes.{Bytes}
-use Rattle.modes.proofs.Back.{one-before}
+use Rattle.modes.proofs.Back.{one_before}
 use Rattle.modes.proofs.Joins.{in_pieces}
 use Rattle.modes.proofs.encipher.Goals as goal
 
@@ -17,7 +17,7 @@ returns g c =
     let done = c.run.ensures.written in
     record {
       does = (whole, done, c.run.ensures.next);
-      back = one-before k _ _ _ _ sound old whole done;
+      back = one_before k _ _ _ _ sound old whole done;
       pieces = λ xs ys e w.
           let p = in_pieces c.args.mode E c.args.start _ xs ys e w in
           (done ∙ p.0, c.run.ensures.next ∙ p.1);

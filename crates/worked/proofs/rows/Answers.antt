@@ -12,8 +12,8 @@ unfolding cycled xtea.cycles blowfish.enciphering odd_round even_round initial s
 returns c =
     record {
       table = record {
-        key_words_lem = (refl, refl, refl);
-        f_of-words = refl;
+        words_of_a_key = (refl, refl, refl);
+        f_of_words = refl;
         first_cycle = refl;
         xtea_vector = refl;
         blowfish_vector = refl;

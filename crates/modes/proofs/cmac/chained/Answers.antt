@@ -2,7 +2,7 @@ use Rattle.std.proofs.Common.{◌≡◌, ap, ◌∙◌, arith}
 use Rattle.std.proofs.lemmas.List.{take_rest}
 use Rattle.cipher.specs.declared.block.Block.{Block}
 use Rattle.modes.specs.Cmac.{zeros, doubled}
-use Rattle.modes.proofs.Marks.{tag-from, turn, end}
+use Rattle.modes.proofs.Marks.{tag_from, turn, end}
 use Rattle.modes.proofs.cmac.chained.Goals as goal
 
 pub loop-at-preserved : goal.loop-at-preserved
@@ -18,4 +18,4 @@ returns g c =
     let text = c.args.text.now in
     let key : c.twice-k1.result ≡ doubled (E zeros) = c.twice-k1.ensures ∙ ap doubled c.encipher.ensures in
     end E c.twice-k1.result text c.loop-at.at c.loop-at.chain _ _ _ _ (omega arith) (take_rest text c.loop-at.at) c.keyed_last.ensures c.xored-2.ensures c.encipher-2.ensures
-    ∙ c.loop-at.invariant.1 ∙ ap (λ (k : Block). tag-from E k zeros text) key
+    ∙ c.loop-at.invariant.1 ∙ ap (λ (k : Block). tag_from E k zeros text) key

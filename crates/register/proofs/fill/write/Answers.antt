@@ -2,7 +2,7 @@ use Rattle.std.proofs.Common.{◌≡◌, ◌+◌, ◌<◌, ◌≢◌, length, ge
 use Rattle.std.proofs.lemmas.List.{get_or-set_same, get_or-set_other, drop-set-lt, drop-drop}
 use Rattle.std.proofs.lemmas.Int.{to_z-of_z}
 use Rattle.curve.specs.Curves.{points, Covered, FlowAt}
-use Rattle.register.proofs.Filling.{within-covered, first-is_flow}
+use Rattle.register.proofs.Filling.{within_covered, first_is_flow}
 use Rattle.register.proofs.fill.write.Goals as goal
 
 pub loop-i-init : goal.loop-i-init
@@ -14,7 +14,7 @@ unreachable-requires c =
     let cf = c.args.curve_flows.now in
     let f : SFits w32 (get_or c.args.stages.now c.loop-i.i (pos 0)) = search rules in
     let e : to_z w32 (of_z w32 (get_or c.args.stages.now c.loop-i.i (pos 0))) ≡ get_or c.args.stages.now c.loop-i.i (pos 0) = to_z-of_z w32 _ f in
-    let w = within-covered cs cf c.requires.lawful c.args.stages.now c.requires.within c.loop-i.i (omega arith) in
+    let w = within_covered cs cf c.requires.lawful c.args.stages.now c.requires.within c.loop-i.i (omega arith) in
     c.in-None.ensures.lawful c.requires.lawful.1 (subst (λ x. Covered (points cs cf) x) (sym e) w)
 
 pub loop-i-preserved : goal.loop-i-preserved
@@ -24,7 +24,7 @@ loop-i-preserved c =
     let cf = c.args.curve_flows.now in
     let f : SFits w32 (get_or c.args.stages.now c.loop-i.i (pos 0)) = search rules in
     let e : to_z w32 (of_z w32 (get_or c.args.stages.now c.loop-i.i (pos 0))) ≡ get_or c.args.stages.now c.loop-i.i (pos 0) = to_z-of_z w32 _ f in
-    let now : FlowAt (points cs cf) (get_or c.args.stages.now c.loop-i.i (pos 0)) c.in-Some.flow = subst (λ x. FlowAt (points cs cf) x c.in-Some.flow) e (first-is_flow _ _ _ c.in-Some.ensures.first) in
+    let now : FlowAt (points cs cf) (get_or c.args.stages.now c.loop-i.i (pos 0)) c.in-Some.flow = subst (λ x. FlowAt (points cs cf) x c.in-Some.flow) e (first_is_flow _ _ _ c.in-Some.ensures.first) in
     let kept = c.loop-i.invariant.0 in (
       below_more _ _
           (λ k h. let ne : k ≢ c.loop-i.i = omega arith in rw get_or-set_other (kept k h))

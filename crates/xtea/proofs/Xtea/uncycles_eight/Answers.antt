@@ -3,7 +3,7 @@ use Rattle.cipher.specs.declared.block.Block.{Block}
 use Rattle.cipher.specs.Eights.{each_of_eight}
 use Rattle.cipher.specs.Words.{minus}
 use Rattle.xtea.specs.Xtea.{sum_at, uncycled, uncycles}
-use Rattle.xtea.specs.Cycles.{turn-back, sum_at-is, none_left}
+use Rattle.xtea.specs.Cycles.{turn_back, sum_at_is, none_left}
 use Rattle.xtea.proofs.Turns.{every}
 use Rattle.xtea.proofs.Xtea.uncycles_eight.Goals as goal
 
@@ -11,7 +11,7 @@ pub loop-i-init : goal.loop-i-init
 loop-i-init c =
     let e : c.args.n - 0 ≡ c.args.n = omega arith in (
       λ x p q. (x, p, q, ap (λ m. each_of_eight (uncycles c.args.self.now.key m) x) e),
-      sym (sum_at-is c.args.n) ∙ ap sum_at (sym e),
+      sym (sum_at_is c.args.n) ∙ ap sum_at (sym e),
     )
 
 pub loop-i-preserved : goal.loop-i-preserved
@@ -20,7 +20,7 @@ loop-i-preserved c =
     let m = c.args.n - (c.loop-i.i + 1) in
     let n = c.args.n - c.loop-i.i in
     let s = c.loop-i.sum in
-    let back = λ (b : Block). turn-back key m n s b (uncycled key (minus s 0x9E3779B9) b) (omega arith) c.loop-i.invariant.1 refl in (
+    let back = λ (b : Block). turn_back key m n s b (uncycled key (minus s 0x9E3779B9) b) (omega arith) c.loop-i.invariant.1 refl in (
       λ x p q.
           let was = c.loop-i.invariant.0 x p q in
           let y = was.0 in

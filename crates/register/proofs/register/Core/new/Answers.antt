@@ -3,7 +3,7 @@ use mathlib.Core.Path.{fun_ext}
 use Rattle.std.proofs.lemmas.Bool.{both_ways}
 use Rattle.register.specs.Meaning.{standing_of}
 use Rattle.register.specs.Places.{held, unused}
-use Rattle.register.proofs.Fresh.{none-marked, none-long, none-level, none-once, none-held}
+use Rattle.register.proofs.Fresh.{none-marked, none_long, none_level, none-once, none-held}
 use Rattle.register.proofs.register.Core.new.Goals as goal
 
 pub invariant_of-result : goal.invariant_of-result
@@ -13,8 +13,8 @@ invariant_of-result c =
       long = ap length e;
       wide = refl;
       counted = omega arith;
-      few = rw e (none-long 32 unused zero-le);
-      level = rw e (none-level 32 unused refl);
+      few = rw e (none_long 32 unused zero-le);
+      level = rw e (none_level 32 unused refl);
       apart = rw e (none-once 32);
       marks = (λ n h. absurd (both_ways _ (none-marked 1025 n) h));
       lawful = (λ n k h. let z = ap (λ ps. held ps n) e ∙ none-held 32 n in absurd (let y : ◌≡◌ {A = ℕ} 0 1 = cc (h, z) in omega arith));

@@ -1,13 +1,13 @@
 use Rattle.std.proofs.Common.{⊎_elim, arith}
 use Rattle.std.proofs.lemmas.Bool.{cases_lt, both_ways}
-use Rattle.register.proofs.Looking.{in_force-past, none_more}
+use Rattle.register.proofs.Looking.{in_force_past, none_more}
 use Rattle.register.specs.Looking.{InForce}
 use Rattle.register.specs.Meaning.{meaning}
 use Rattle.register.proofs.register.Core.next_in_force.Goals as goal
 use Rattle.register.proofs.register.Core.next_in_force.Goals.{else-n-after-via-then-n-after+else-is_in_force, else-n-after-via-else-n-after}
 
 pub returns : goal.returns
-returns c = λ n a p. ⊎_elim (λ l. c.loop-n.invariant n a (omega arith) p) (λ g. in_force-past c.args.self.now n g p) (cases_lt n 1025)
+returns c = λ n a p. ⊎_elim (λ l. c.loop-n.invariant n a (omega arith) p) (λ g. in_force_past c.args.self.now n g p) (cases_lt n 1025)
 
 pub loop-n-preserved : goal.loop-n-preserved
 loop-n-preserved c =

@@ -5,7 +5,7 @@ use Rattle.std.proofs.lemmas.Result.{err_from_is_err_and}
 use Rattle.refusal.specs.Refusals.{number_of}
 use Rattle.rules.specs.Calls.{withdraw, refused, accepted, Withdraw, withdraw_1}
 use Rattle.register.specs.Meaning.{meaning}
-use Rattle.register.proofs.Calling.{carries, withdraw-done}
+use Rattle.register.proofs.Calling.{carries, withdraw_done}
 use Rattle.register.proofs.Laws.{marked_law}
 use Rattle.register.proofs.register.Core.withdraw.Goals as goal
 
@@ -36,7 +36,7 @@ pub returns : goal.returns
 returns c =
     let r = c.args.self.now in
     let e = c.evict.ensures in
-    let d = withdraw-done r c.args.number c.evict.new.self.places c.mark.new.marks c.mark.ensures c.in_ok-known.ensures e.others in
+    let d = withdraw_done r c.args.number c.evict.new.self.places c.mark.new.marks c.mark.ensures c.in_ok-known.ensures e.others in
     record {
       does = d;
       kept = tt;

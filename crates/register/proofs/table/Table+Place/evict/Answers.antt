@@ -1,8 +1,8 @@
 use Rattle.std.proofs.Common.{length, refl, ap, ◌∙◌}
 use Rattle.std.proofs.lemmas.List.{length-set}
 use Rattle.register.proofs.Changes.{held-some}
-use Rattle.register.proofs.Held.{nowhere-held}
-use Rattle.register.proofs.Laws.{freed-here, freed-others, freed-once, freed_free, freed-stays, levels_set, counts_set}
+use Rattle.register.proofs.Held.{nowhere_held}
+use Rattle.register.proofs.Laws.{freed_here, freed_others, freed_once, freed_free, freed_stays, levels_set, counts_set}
 use Rattle.register.proofs.table.Table+Place.evict.Goals as goal
 
 pub returns-in-Some : goal.returns-in-Some
@@ -14,19 +14,19 @@ returns-in-Some c =
     let o = c.release.ensures in
     let e = o.1 in
     record {
-      gone = rw e (freed-here ps i n o.0 b o.2 c.requires.apart);
-      others = rw e (freed-others ps i n o.0 b o.2);
-      onces = rw e (freed-once ps i n o.0 b o.2);
+      gone = rw e (freed_here ps i n o.0 b o.2 c.requires.apart);
+      others = rw e (freed_others ps i n o.0 b o.2);
+      onces = rw e (freed_once ps i n o.0 b o.2);
       long = ap length e ∙ simp length-set;
       freed = rw e (freed_free ps i n o.0 b o.2 c.requires.apart);
-      stays = rw e (freed-stays ps i n o.0 b o.2);
+      stays = rw e (freed_stays ps i n o.0 b o.2);
       levels = rw e (levels_set ps i o.0 o.3 o.4 o.5);
       counts = rw e (counts_set ps i o.0 o.3);
     }
 
 pub returns-in-None : goal.returns-in-None
 returns-in-None c =
-    let none = nowhere-held c.args.self.now.places c.args.number c.requires.whole c.in-None.ensures in
+    let none = nowhere_held c.args.self.now.places c.args.number c.requires.whole c.in-None.ensures in
     record {
       gone = none;
       others = λ m ne. refl;

@@ -3,7 +3,7 @@ use Rattle.chosen.specs.declared.Chosen.TheVariants.{One}
 use Rattle.session.specs.Calls.Loads.{unkeyed, refused, loads}
 use Rattle.session.specs.State.{put}
 use Rattle.session.specs.Views.{meaning, standing}
-use Rattle.session.proofs.Loading.{loaded_as, restood-keyed}
+use Rattle.session.proofs.Loading.{loaded_as, restood_keyed}
 use Rattle.session.proofs.ciphers.Ciphers.load.Goals as goal
 
 pub returns-in-Err : goal.returns-in-Err
@@ -20,5 +20,5 @@ returns c =
     let n = c.args.name.now in
     let s = standing c.args.self.now in
     loads (meaning (One c.in-Ok.cipher)) c.in-Ok.ensures h.0 refl
-    (c.stand.ensures ∙ restood-keyed n s (meaning (One c.in-Ok.cipher)) (meaning (One c.load_key.new.self)) c.in-Ok.ensures
+    (c.stand.ensures ∙ restood_keyed n s (meaning (One c.in-Ok.cipher)) (meaning (One c.load_key.new.self)) c.in-Ok.ensures
     ∙ ap (λ x. put n x s) (loaded_as c.in-Ok.cipher c.load_key.new.self c.args.key.now h.1 h.2 c.in_default.ensures.kind))
