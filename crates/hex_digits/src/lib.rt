@@ -3,7 +3,7 @@
 //! Public: `read`, `read_block`, `spell`, `spell_block`.
 #![tactic(auto)]
 
-ghost use Rattle.std.specs.Prelude.{◌≡◌, ◌+◌, ◌*◌, ◌<◌, true, length, IfOk, MatchBool, MatchOption};
+ghost use Rattle.std.specs.Prelude.{◌≡◌, ◌<◌, length, IfOk, MatchBool, MatchOption};
 ghost use Rattle.cipher.specs.Bytes.{Bytes, bytes_of};
 ghost use Rattle.hex_digits.specs.Digits.{digit_of, spelled, Unspelt, NoBlock};
 ghost use Rattle.hex_digits.specs.Worth.{worth_of, AllDigits, SomeOther};

@@ -1,5 +1,5 @@
 -- What each call comes to, as a relation of what stood, the answer and what stands then.
---   fresh k              a cipher of kind k before any load
+--   fresh_blowfish, fresh_xtea      a cipher of the kind before any load
 --   under k key          a cipher of kind k under a key
 --   ede p q o            three ciphers in a row: p's E, q's D, o's E
 --   made s m             the cipher that is made, or why it is not
