@@ -1,8 +1,8 @@
 -- The points of two lists, place by place.
 use Rattle.std.proofs.Common.{◌≡◌, ℕ, zero, suc, ◌+◌, ◌-◌, ◌<◌, ◌≤◌, List, [], ◌∷◌, length, get_or, ℤ, pos, sym, refl, subst, subst₂, arith}
 use native.Mathlib.Decide.{ℕ_discrete, dec_lt}
-use Rattle.curve.specs.Answers.{InRange, Step}
-use Rattle.curve.specs.Curves.{Point, point, pair, points, LawfulCurve, Makes}
+use Rattle.curve.specs.Answers.{Step}
+use Rattle.curve.specs.Curves.{Point, point, pair, points, LawfulCurve, Makes, InRange}
 
 pub length-points : (ss : List ℤ) (qs : List ℕ) → length (points ss qs) ≤ length ss
 length-points [] qs = omega arith
@@ -41,8 +41,8 @@ module _ (ss : List ℤ) (qs : List ℕ) (same : length ss ≡ length qs) where
   steps_of L k h =
       let n = enough in
       subst₂ StepOf (point_at ss qs k (omega arith) (omega arith)) (point_at ss qs (k + 1) h (omega arith)) (
-        (L.low k (omega arith), L.high k (omega arith), L.flows k (omega arith)),
-        (L.low (k + 1) (omega arith), L.high (k + 1) (omega arith), L.flows (k + 1) (omega arith)),
+        L.in_range k (omega arith),
+        L.in_range (k + 1) (omega arith),
         L.rises k (omega arith),
         L.never_falls k (omega arith),
       )
@@ -67,9 +67,7 @@ module _ (ss : List ℤ) (qs : List ℕ) (same : length ss ≡ length qs) where
         record {
           least = omega arith;
           most = omega arith;
-          low = λ k h. (each_in_range k (omega arith)).0;
-          high = λ k h. (each_in_range k (omega arith)).1;
-          flows = λ k h. (each_in_range k (omega arith)).2;
+          in_range = λ k h. each_in_range k (omega arith);
           rises = λ k h. (step_at k (omega arith)).2;
           never_falls = λ k h. (step_at k (omega arith)).3;
         }

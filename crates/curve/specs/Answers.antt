@@ -1,15 +1,11 @@
 -- What the calls on curves answer.
---   InRange s q       a stage and a flow that a curve may have
 --   Step s q t r      the point (t, r) may follow the point (s, q) on a curve
 --   HoldsAt ss s i    the stage s lies from the stage before place i to that at place i
 --   FirstFlow c s q   q is the flow at s by the first pair of neighbours that holds s
 --   Found c s r       r is that flow, or none where no pair holds s
 --   Lawfully c s r    of a lawful curve: any pair gives r, and there is one exactly where the curve covers s
-use Rattle.std.specs.Prelude.{◌≡◌, ℕ, ◌+◌, ◌-◌, ◌<◌, ◌≤◌, List, ℤ, pos, negsuc, ◌≤ℤ◌, ◌<ℤ◌, Option, MatchOption, slice_index_or}
-use Rattle.curve.specs.Curves.{Curve, point, LawfulCurve, flow_between, Between, Covered}
-
-abbrev pub InRange : ℤ → ℕ → Type 0
-InRange s q = (negsuc 19999 ≤ℤ s) × (s ≤ℤ pos 60000) × (q ≤ 2000000000)
+use Rattle.std.specs.Prelude.{◌≡◌, ℕ, ◌+◌, ◌-◌, ◌<◌, ◌≤◌, List, ℤ, pos, ◌≤ℤ◌, ◌<ℤ◌, Option, MatchOption, slice_index_or}
+use Rattle.curve.specs.Curves.{Curve, point, InRange, LawfulCurve, flow_between, Between, Covered}
 
 abbrev pub Step : ℤ → ℕ → ℤ → ℕ → Type 0
 Step s q t r = InRange s q × InRange t r × (s <ℤ t) × (q ≤ r)

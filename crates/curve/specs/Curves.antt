@@ -4,6 +4,7 @@
 --   point c k           the point at place k, the first at 0
 --   pair ss qs k        the stage and the flow at place k of two lists
 --   points ss qs        the points of a list of stages and a list of flows, one by one
+--   InRange s q         a stage and a flow that a point may have
 --   LawfulCurve c       2 to 16 points in range, stages that rise strictly, flows that never fall
 --   Makes ss qs         the lists are of equal length and make a lawful curve
 --   above a s           how far the stage s lies above the stage a
@@ -34,14 +35,14 @@ points [] qs = []
 points (s ∷ ss) [] = []
 points (s ∷ ss) (q ∷ qs) = record { stage = s; flow = q } ∷ points ss qs
 
+-- −20,000 to 60,000 mm, where negsuc n is −(n + 1), and 0 to 2,000,000,000 l/s
+abbrev pub InRange : ℤ → ℕ → Type 0
+InRange s q = (negsuc 19999 ≤ℤ s) × (s ≤ℤ pos 60000) × (q ≤ 2000000000)
+
 pub record LawfulCurve (c : Curve) : Type 0 where
   pub least : 2 ≤ length c
   pub most : length c ≤ 16
-  -- −20,000 to 60,000 mm; negsuc n is −(n + 1)
-  pub low : (k : ℕ) → k < length c → negsuc 19999 ≤ℤ (point c k).stage
-  pub high : (k : ℕ) → k < length c → (point c k).stage ≤ℤ pos 60000
-  -- 0 to 2,000,000,000 l/s
-  pub flows : (k : ℕ) → k < length c → (point c k).flow ≤ 2000000000
+  pub in_range : (k : ℕ) → k < length c → InRange (point c k).stage (point c k).flow
   pub rises : (k : ℕ) → k + 1 < length c → (point c k).stage <ℤ (point c (k + 1)).stage
   pub never_falls : (k : ℕ) → k + 1 < length c → (point c k).flow ≤ (point c (k + 1)).flow
 

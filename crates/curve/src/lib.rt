@@ -5,8 +5,8 @@
 #![tactic(auto)]
 
 ghost use Rattle.std.specs.Prelude.{◌≡◌, ◌+◌, ◌-◌, ◌*◌, ◌/◌, ◌<◌, ◌≤◌, length, ◌≤ℤ◌, Decides};
-ghost use Rattle.curve.specs.Answers.{InRange, Step, HoldsAt, Found, Lawfully};
-ghost use Rattle.curve.specs.Curves.{pair, points, Makes, above, flow_between};
+ghost use Rattle.curve.specs.Answers.{Step, HoldsAt, Found, Lawfully};
+ghost use Rattle.curve.specs.Curves.{pair, points, InRange, Makes, above, flow_between};
 ghost use Rattle.curve.specs.Laws.{CurveLaws};
 
 const LOWEST: i32 = -20000;
@@ -53,12 +53,14 @@ fn height(low: i32, high: i32) -> u64
     (i64::from(high) - i64::from(low)) as u64
 }
 
-/// What a rise of the flow comes to at a part of the way, rounded down.
+/// What a rise of the flow comes to at a part of the way, rounded down: no more than the rise.
 fn share(rise: u64, part: u64, way: u64) -> u64
     requires rise { rise < 4294967296 }
-    requires part { part < 4294967296 }
-    requires way { 0 < way }
-    ensures { result ≡ rise * part / way }
+    requires part { part ≤ way }
+    requires way { way < 4294967296 }
+    requires some { 0 < way }
+    ensures value { result ≡ rise * part / way }
+    ensures within { result ≤ rise }
 {
     rise * part / way
 }

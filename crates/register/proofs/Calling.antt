@@ -1,28 +1,26 @@
 -- What the calls come to, by number.
-use Rattle.std.proofs.Common.{◌≡◌, ℕ, ◌<◌, ◌≤◌, Bool, true, false, cond, eqb, List, length, get_or, take, set, ℤ, Some, None, Ok, Err, Option, Result, sym, refl, ap, ◌∙◌, ap₂, arith}
+use Rattle.std.proofs.Common.{◌≡◌, ℕ, ◌<◌, ◌≤◌, Bool, true, false, cond, eqb, List, length, get_or, take, set, ℤ, Some, None, Ok, Err, Option, Result, refl, ap, ◌∙◌, ap₂, arith}
 use mathlib.Core.Path.{fun_ext}
 use native.Mathlib.Decide.{ℕ_discrete}
 use Rattle.std.proofs.lemmas.List.{get_or-set_same, get_or-set_other}
 use Rattle.std.proofs.lemmas.Bool.{eq-eqb, ne_eqb}
 use Rattle.refusal.specs.declared.Refusal.{Refusal}
-use Rattle.refusal.specs.declared.Refusal.TheVariants.{NumberOutOfRange, Withdrawn, NoLawfulCurve, AlreadyInForce, NoFreePlace, NotInForce, StageOffCurve, ParcelLength, Header, Tag, TooShort, Padding, NoLawfulBundle, OtherPoints, SerialUsedUp, KeyLength, TextLength, Mode}
-use Rattle.refusal.specs.Refusals.{number_of}
 use Rattle.cipher.specs.declared.block.Block.{Block}
 use Rattle.curve.specs.Curves.{Curve, points, Makes}
 use Rattle.rules.specs.Registers.{Number, State, put, in_force, withdrawn}
-use Rattle.rules.specs.Calls.{Call, Answer, Publish, Withdraw, Convert, Does, refused, accepted, publish_1, publish_2, publish_3, publish_4, publish_5, published, marked, convert_1, convert_2, convert_6, convert_11, convert_7, converted}
+use Rattle.rules.specs.Calls.{Call, Answer, Publish, Withdraw, Convert, Does, refused, accepted, published, marked, convert_7, converted}
 use Rattle.rules.proofs.Extends.{every_call}
 use Rattle.register.specs.declared.place.Place.{Place}
 use Rattle.register.specs.declared.register.Core.{Core}
-use Rattle.register.specs.Causes.{PublishCause, Publishable, ConvertCause}
+use Rattle.register.specs.Causes.{Publishable}
 use Rattle.register.specs.Filling.{Filled}
 use Rattle.register.specs.Meaning.{standing_of, standing_at, meaning, answer_of, Occupied, Carries}
-use Rattle.register.specs.Places.{bears, curve_of, held, Nowhere, blank}
+use Rattle.register.specs.Places.{curve_of, held, Nowhere}
 use Rattle.register.specs.declared.place.PlaceState.TheVariants.{InForce}
 use Rattle.register.proofs.Filling.{within_covered, covered_within}
 use Rattle.register.proofs.Held.{nowhere_held}
-use Rattle.register.proofs.Laws.{held_at, placed_here, placed_others}
-use Rattle.register.proofs.Uses.{full, room}
+use Rattle.register.proofs.Laws.{placed_here, placed_others}
+use Rattle.register.proofs.Uses.{room}
 
 -- ---- a call carries every run on
 
@@ -35,48 +33,14 @@ carries s q a lent t does E1 D1 E2 D2 k l = every_call E1 D1 E2 D2 k l s q a len
 pub drawn_so : (p : Place) (ss : List ℤ) (qs : List ℕ) → take p.count p.stages ≡ ss → take p.count p.flows ≡ qs → curve_of p ≡ points ss qs
 drawn_so p ss qs a b = ap₂ points a b
 
-stands_marked : (r : Core) (n : ℕ) → get_or r.withdrawn n false ≡ true → (meaning r).standing n ≡ Some withdrawn
-stands_marked r n m = ap (λ b. standing_of b (held r.table.places n)) m
-
-stands_so : (r : Core) (n : ℕ) (o : Option Curve) → get_or r.withdrawn n false ≡ false → held r.table.places n ≡ o → (meaning r).standing n ≡ standing_of false o
+pub stands_so : (r : Core) (n : ℕ) (o : Option Curve) → get_or r.withdrawn n false ≡ false → held r.table.places n ≡ o → (meaning r).standing n ≡ standing_of false o
 stands_so r n o m h = ap₂ standing_of m h
-
-pub stands_in_force : (r : Core) (n i : ℕ) → get_or r.withdrawn n false ≡ false → bears (get_or r.table.places i blank).state n ≡ true → (meaning r).standing n ≡ Some (in_force (curve_of (get_or r.table.places i blank)))
-stands_in_force r n i m b = stands_so r n _ m (held_at r.table.places i n (r.apart n) b)
 
 -- where no place has the number, none is in force with it
 pub nowhere : (r : Core) (n : ℕ) → Nowhere r.table.places n → held r.table.places n ≡ None
 nowhere r n h = nowhere_held r.table.places n r.long h
 
--- an unmarked number is not withdrawn
-not_withdrawn : (r : Core) (n : ℕ) → get_or r.withdrawn n false ≡ false → (meaning r).standing n ≡ Some withdrawn → ⊥
-not_withdrawn r n m h = go (held r.table.places n) (sym (stands_so r n _ m refl) ∙ h)
-  where
-    go : (o : Option Curve) → standing_of false o ≡ Some withdrawn → ⊥
-    go None e = let z : ◌≡◌ {A = ℕ} 0 1 = cc e in omega arith
-    go (Some c) e = let z : ◌≡◌ {A = ℕ} 0 1 = cc e in omega arith
-
 -- ---- publish
-
-pub publish_refused : (r : Core) (n : ℕ) (ss : List ℤ) (qs : List ℕ) (e : Refusal) → PublishCause r n ss qs e → Publish n ss qs (meaning r) (refused (number_of e)) (meaning r)
-publish_refused r n ss qs NumberOutOfRange h = publish_1 h refl refl
-publish_refused r n ss qs Withdrawn (i, m) = publish_2 i (stands_marked r n m) refl refl
-publish_refused r n ss qs NoLawfulCurve (i, u, k) = publish_3 i (not_withdrawn r n u) k refl refl
-publish_refused r n ss qs AlreadyInForce (i, u, k, j, b) = publish_4 _ i (stands_in_force r n j u b) k refl refl
-publish_refused r n ss qs NoFreePlace (i, u, k, h, f) = publish_5 i (stands_so r n None u (nowhere r n h)) k (full r f) refl refl
-publish_refused r n ss qs NotInForce h = absurd h
-publish_refused r n ss qs StageOffCurve h = absurd h
-publish_refused r n ss qs ParcelLength h = absurd h
-publish_refused r n ss qs Header h = absurd h
-publish_refused r n ss qs Tag h = absurd h
-publish_refused r n ss qs TooShort h = absurd h
-publish_refused r n ss qs Padding h = absurd h
-publish_refused r n ss qs NoLawfulBundle h = absurd h
-publish_refused r n ss qs OtherPoints h = absurd h
-publish_refused r n ss qs SerialUsedUp h = absurd h
-publish_refused r n ss qs KeyLength h = absurd h
-publish_refused r n ss qs TextLength h = absurd h
-publish_refused r n ss qs Mode h = absurd h
 
 -- one number of the standings changes
 standing-put : (marks : List Bool) (ps qs : List Place) (n : ℕ) (c : Curve) → get_or marks n false ≡ false → held qs n ≡ Some c → ((m : ℕ) → (m ≡ n → ⊥) → held qs m ≡ held ps m)
@@ -96,24 +60,24 @@ places_now r marks ps = record { station = r.station; serial = r.serial; standin
 
 module _ (r : Core) (n : ℕ) (ss : List ℤ) (qs : List ℕ) (i : ℕ) (p : Place) (ps : List Place) (a : Publishable r n ss qs i) (e : ps ≡ set r.table.places i p) (own : p.state ≡ InForce n) (drawn : curve_of p ≡ points ss qs) where
   within : i < length r.table.places
-  within = omega (arith, r.long, a.4)
+  within = omega (arith, r.long, a.3)
 
   here : held ps n ≡ Some (points ss qs)
-  here = ap (λ l. held l n) e ∙ placed_here r.table.places i n p a.5 (nowhere r n a.3) own within ∙ ap Some drawn
+  here = ap (λ l. held l n) e ∙ placed_here r.table.places i n p a.4 (nowhere r n a.2) own within ∙ ap Some drawn
 
   others : (m : ℕ) → (m ≡ n → ⊥) → held ps m ≡ held r.table.places m
-  others m d = ap (λ l. held l m) e ∙ placed_others r.table.places i n p a.5 (nowhere r n a.3) own m d
+  others m d = ap (λ l. held l m) e ∙ placed_others r.table.places i n p a.4 (nowhere r n a.2) own m d
 
   after : places_now r r.withdrawn ps ≡ put n (in_force (points ss qs)) (meaning r)
   after =
-      let f = fun_ext (standing-put r.withdrawn r.table.places ps n (points ss qs) a.1 here others) in
+      let f = fun_ext (standing-put r.withdrawn r.table.places ps n (points ss qs) a.0.1 here others) in
       λ j. record { station = r.station; serial = r.serial; standing = f j }
 
   pub publish_done : Publish n ss qs (meaning r) accepted (places_now r r.withdrawn ps)
-  publish_done = published a.0 (stands_so r n None a.1 (nowhere r n a.3)) a.2 (room r i a.4 a.5) refl after
+  publish_done = published a.0.0 (stands_so r n None a.0.1 (nowhere r n a.2)) a.1 (room r i a.3 a.4) refl after
 
   pub occupied : Occupied r.table.places ps n (points ss qs)
-  occupied = record { spot = i; place = p; there = a.4; was_free = a.5; now_in_force = own; curve = drawn; others = e }
+  occupied = record { spot = i; place = p; there = a.3; was_free = a.4; now_in_force = own; curve = drawn; others = e }
 
 -- ---- withdraw
 
@@ -138,26 +102,6 @@ withdraw_done r n ps marks e i o =
     marked i refl (λ j. record { station = r.station; serial = r.serial; standing = f j })
 
 -- ---- convert
-
-pub convert_refused : (r : Core) (n : ℕ) (st : List ℤ) (room : List ℕ) (e : Refusal) → ConvertCause r n (length st) (length room) e → Convert n st room (meaning r) (refused (number_of e)) room
-convert_refused r n st room NumberOutOfRange h = convert_1 h refl refl
-convert_refused r n st room Withdrawn (i, m) = convert_2 i (stands_marked r n m) refl refl
-convert_refused r n st room NotInForce (i, u, h) = convert_6 i (stands_so r n None u (nowhere r n h)) refl refl
-convert_refused r n st room TooShort (i, u, j, b, l) = convert_11 _ i (stands_in_force r n j u b) l refl refl
-convert_refused r n st room NoLawfulCurve h = absurd h
-convert_refused r n st room AlreadyInForce h = absurd h
-convert_refused r n st room NoFreePlace h = absurd h
-convert_refused r n st room StageOffCurve h = absurd h
-convert_refused r n st room ParcelLength h = absurd h
-convert_refused r n st room Header h = absurd h
-convert_refused r n st room Tag h = absurd h
-convert_refused r n st room Padding h = absurd h
-convert_refused r n st room NoLawfulBundle h = absurd h
-convert_refused r n st room OtherPoints h = absurd h
-convert_refused r n st room SerialUsedUp h = absurd h
-convert_refused r n st room KeyLength h = absurd h
-convert_refused r n st room TextLength h = absurd h
-convert_refused r n st room Mode h = absurd h
 
 pub convert_filled : (r : Core) (n : ℕ) (ss : List ℤ) (qs : List ℕ) (st : List ℤ) (room lent : List ℕ) → Makes ss qs → Number n → (meaning r).standing n ≡ Some (in_force (points ss qs)) → length st ≤ length room
     → (a : Result (Unit {0}) Refusal) → Filled ss qs st room lent a → Convert n st room (meaning r) (answer_of a) lent

@@ -1,12 +1,11 @@
 -- Marks and curves, and what stands.
-use Rattle.std.proofs.Common.{◌≡◌, ℕ, ◌+◌, ◌<◌, Bool, true, false, get_or, Some, None, Option, sym, refl, ap, ◌∙◌, ap₂, arith}
-use native.Mathlib.Decide.{ℕ_discrete}
+use Rattle.std.proofs.Common.{◌≡◌, ℕ, ◌<◌, Bool, true, false, get_or, Some, None, Option, sym, refl, ap, ◌∙◌, ap₂, ⊎_elim, Decides, arith}
 use Rattle.std.proofs.lemmas.List.{get_or_past}
-use Rattle.std.proofs.lemmas.Bool.{both_ways}
+use Rattle.std.proofs.lemmas.Bool.{both_ways, cases_lt}
 use Rattle.curve.specs.Curves.{Curve}
 use Rattle.rules.specs.Registers.{in_force, withdrawn}
 use Rattle.register.specs.declared.register.Core.{Core}
-use Rattle.register.specs.Looking.{InForce, Withdrawn}
+use Rattle.register.specs.Looking.{InForce, Withdrawn, Next, Lowest}
 use Rattle.register.specs.Meaning.{standing_of, meaning}
 use Rattle.register.specs.Places.{bears, curve_of, held, Nowhere, blank}
 use Rattle.register.proofs.Held.{held_none}
@@ -53,10 +52,9 @@ in_force_past r n l f = go (held r.table.places n) refl
     go None e = not_in_force r n e f
     go (Some d) e = omega (arith, (sound_at r n d e).number.1)
 
--- none up to n, and none at n
-pub none_more : (P : ℕ → Type 0) (after n : ℕ) → ((m : ℕ) → after < m → m < n → P m → ⊥) → (after < n → P n → ⊥) → (m : ℕ) → after < m → m < n + 1 → P m → ⊥
-none_more P after n below at m a l p = go (ℕ_discrete m n)
-  where
-    go : Dec (m ≡ n) → ⊥
-    go (yes e) = at (omega arith) (mathlib.Core.Path.subst P e p)
-    go (no d) = below m a (omega arith) p
+-- a test that tells whether P holds finds the lowest number of which it holds, where P holds of none above 1024
+pub next_of : (P : ℕ → Type 0) {T : ℕ → Bool → Type 0} {after : ℕ} {r : Option ℕ} → Lowest T after r → ((n : ℕ) (b : Bool) → T n b → Decides b (P n)) → ((n : ℕ) → 1024 < n → P n → ⊥) → Next P after r
+next_of P {r = None} h tells past =
+    λ n a p. ⊎_elim (λ l. both_ways false refl ((tells n false (h.is n a (omega arith))).1 p)) (λ g. past n (omega arith) p) (cases_lt n 1025)
+next_of P {r = Some m} h tells past =
+    (h.is.0, (tells m true h.is.1).0 refl, λ n a l p. both_ways false refl ((tells n false (h.is.2 n a l)).1 p))

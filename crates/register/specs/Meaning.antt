@@ -1,9 +1,10 @@
 -- What a register is, seen by number, and how its calls answer.
 --   meaning r         the state of a register, its places hidden
 --   answer_of r       the answer of a call, by number
---   Occupied          some place that was free is in force with a number and its curve, and every other is as before
+--   Occupied          some place that was free is in force with a number and its curve, and every other is as before;
+--                     which one, and what its arrays hold behind the last point, is left open
 --   Vacated           the place that was in force with a number is free, and every other is as before
---   Refused r         the call was refused
+--   IfAccepted r P    P of an accepted call; IfRefused r P of a refused one
 --   Carries s q a lent t    over every two ciphers, the call carries every run on with the promises
 use Rattle.std.specs.Prelude.{◌≡◌, ℕ, ◌<◌, Bool, true, false, List, get_or, Some, None, Ok, Err, Option, Result, slice_index_or, slice_set}
 use Rattle.refusal.specs.declared.Refusal.{Refusal}
@@ -35,7 +36,6 @@ abbrev pub answer_of : Result (Unit {0}) Refusal → Answer
 answer_of (Ok u) = accepted
 answer_of (Err e) = refused (number_of e)
 
--- which free place is taken is left open
 pub record Occupied (before after : List Place) (n : ℕ) (c : Curve) : Type 0 where
   pub spot : ℕ
   pub place : Place

@@ -1,29 +1,24 @@
 //! Convert: stages are turned into flows by the curve in force.
-ghost use Rattle.std.specs.Prelude.{◌≡◌, MatchResult};
+ghost use Rattle.std.specs.Prelude.{length, MatchResult};
+ghost use Rattle.refusal.specs.Refusals.{number_of};
 ghost use Rattle.rules.specs.Calls as rule;
-ghost use Rattle.register.specs.Causes.{ConvertCause, Convertible};
+ghost use Rattle.register.specs.Causes.{Convertible};
 ghost use Rattle.register.specs.Meaning.{meaning, answer_of, Carries};
 
-use crate::LAST;
 use crate::fill::fill;
 use crate::register::Core;
 use refusal::Refusal;
 
 impl Core {
-    /// The place that is in force with a number, or the first reason why so many stages are not converted into so long a list.
-    fn seek(&self, number: u16, wanted: usize, room: usize) -> Result<usize, Refusal>
-        ensures { MatchResult result (λ i. Convertible self.now number wanted room i) (λ e. ConvertCause self.now number wanted room e) }
+    /// The place that is in force with a number, or why the rule refuses these stages and this list before it looks at one.
+    fn seek(&self, number: u16, stages: &[i32], flows: &[u32]) -> Result<usize, Refusal>
+        ensures { MatchResult result (λ i. Convertible self.now number (length stages.now) (length flows.now) i) (λ e. rule.Convert number stages.now flows.now (meaning self.now) (rule.refused (number_of e)) flows.now) }
     {
-        if number < 1 || number > LAST {
-            return Err(Refusal::NumberOutOfRange);
-        }
-        if self.withdrawn[number as usize] {
-            return Err(Refusal::Withdrawn);
-        }
+        self.unmarked(number)?;
         let Some(i) = self.table.find(number) else {
             return Err(Refusal::NotInForce);
         };
-        if room < wanted {
+        if flows.len() < stages.len() {
             return Err(Refusal::TooShort);
         }
         Ok(i)
@@ -34,7 +29,7 @@ impl Core {
         ensures does { rule.Convert number stages.now flows.old (meaning self.now) (answer_of result) flows.new }
         ensures promises { Carries (meaning self.now) (rule.convert number stages.now flows.old) (answer_of result) flows.new (meaning self.now) }
     {
-        let i = self.seek(number, stages.len(), flows.len())?;
+        let i = self.seek(number, stages, flows)?;
         let (curve_stages, curve_flows) = self.table.places[i].curve();
         fill(curve_stages, curve_flows, stages, flows)
     }

@@ -8,6 +8,7 @@
 mod convert;
 mod fill;
 mod looks;
+mod number;
 mod place;
 mod publish;
 mod register;

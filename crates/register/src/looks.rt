@@ -1,8 +1,8 @@
 //! Looking things up in a register. Lists go by rising number: each number leads to the next.
-ghost use Rattle.std.specs.Prelude.{◌≡◌, ℕ, ◌<◌, ◌≤◌, Some, Decides, MatchOption};
-ghost use Rattle.curve.specs.Curves.{points};
+ghost use Rattle.std.specs.Prelude.{◌≡◌, ℕ, ◌<◌, ◌≤◌, Some, Decides, IfSome, MatchOption};
+ghost use Rattle.curve.specs.Curves.{points, Makes};
 ghost use Rattle.rules.specs.Registers.{in_force};
-ghost use Rattle.register.specs.Looking.{InForce, Withdrawn, Next};
+ghost use Rattle.register.specs.Looking.{InForce, Withdrawn, Next, Lowest};
 ghost use Rattle.register.specs.Meaning.{meaning};
 
 use crate::LAST;
@@ -42,7 +42,8 @@ impl Core {
 
     /// The stages and the flows of the curve in force with a number, if there is one.
     pub fn points(&self, number: u16) -> Option<(&[i32], &[u32])>
-        ensures { MatchOption result (InForce (meaning self.now) number → ⊥) (λ x. (meaning self.now).standing number ≡ Some (in_force (points x.0.now x.1.now))) }
+        ensures curve { MatchOption result (InForce (meaning self.now) number → ⊥) (λ x. (meaning self.now).standing number ≡ Some (in_force (points x.0.now x.1.now))) }
+        ensures lawful { IfSome result (λ x. Makes x.0.now x.1.now) }
     {
         let i = self.table.find(number)?;
         Some(self.table.places[i].curve())
@@ -52,23 +53,26 @@ impl Core {
     pub fn next_in_force(&self, after: u16) -> Option<u16>
         ensures { Next (InForce (meaning self.now)) after result }
     {
-        for n in 1..=LAST {
-            if n > after && self.is_in_force(n) {
-                return Some(n);
-            }
-        }
-        None
+        lowest_above(after, |n| self.is_in_force(n))
     }
 
     /// The lowest withdrawn number above a given one.
     pub fn next_withdrawn(&self, after: u16) -> Option<u16>
         ensures { Next (Withdrawn (meaning self.now)) after result }
     {
-        for n in 1..=LAST {
-            if n > after && self.is_withdrawn(n) {
-                return Some(n);
-            }
-        }
-        None
+        lowest_above(after, |n| self.is_withdrawn(n))
     }
+}
+
+/// The lowest number that a curve can have, above a given one, that a test passes.
+fn lowest_above<F: Fn(u16) -> bool>(after: u16, test: F) -> Option<u16>
+    requires { F.IsAlwaysCallable test }
+    ensures { Lowest (F.post test) after result }
+{
+    for n in 1..=LAST {
+        if n > after && test(n) {
+            return Some(n);
+        }
+    }
+    None
 }

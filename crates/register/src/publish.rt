@@ -1,29 +1,24 @@
 //! Publish: a curve is put in force.
 ghost use Rattle.std.specs.Prelude.{◌≡◌, [], MatchResult};
+ghost use Rattle.refusal.specs.Refusals.{number_of};
 ghost use Rattle.curve.specs.Curves.{points};
 ghost use Rattle.rules.specs.Calls as rule;
-ghost use Rattle.register.specs.Causes.{PublishCause, Publishable};
+ghost use Rattle.register.specs.Causes.{Publishable};
 ghost use Rattle.register.specs.Meaning.{meaning, answer_of, Occupied, IfAccepted, IfRefused, Carries};
 
-use crate::LAST;
 use crate::register::Core;
 use refusal::Refusal;
 
 impl Core {
-    /// The free place that a publish takes, or the first reason why it is refused.
+    /// The free place that a publish takes, or why the rule refuses it.
     fn weigh(&self, number: u16, stages: &[i32], flows: &[u32]) -> Result<usize, Refusal>
-        ensures { MatchResult result (λ i. Publishable self.now number stages.now flows.now i) (λ e. PublishCause self.now number stages.now flows.now e) }
+        ensures { MatchResult result (λ i. Publishable self.now number stages.now flows.now i) (λ e. rule.Publish number stages.now flows.now (meaning self.now) (rule.refused (number_of e)) (meaning self.now)) }
     {
-        if number < 1 || number > LAST {
-            return Err(Refusal::NumberOutOfRange);
-        }
-        if self.withdrawn[number as usize] {
-            return Err(Refusal::Withdrawn);
-        }
+        self.unmarked(number)?;
         if !curve::makes_curve(stages, flows) {
             return Err(Refusal::NoLawfulCurve);
         }
-        if let Some(_) = self.table.find(number) {
+        if self.table.has(number) {
             return Err(Refusal::AlreadyInForce);
         }
         match self.table.vacant() {

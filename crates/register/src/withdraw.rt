@@ -1,23 +1,11 @@
 //! Withdraw: a number is marked, for good.
 ghost use Rattle.std.specs.Prelude.{◌≡◌, ◌<◌, true, [], length, slice_set};
-ghost use Rattle.refusal.specs.Refusals.{Answers};
 ghost use Rattle.rules.specs.Calls as rule;
-ghost use Rattle.rules.specs.Registers.{Number};
 ghost use Rattle.register.specs.Meaning.{meaning, answer_of, Vacated, IfAccepted, IfRefused, Carries};
 
-use crate::LAST;
+use crate::number::known;
 use crate::register::Core;
 use refusal::Refusal;
-
-/// Whether a number is one that a curve can have: 1.
-fn known(number: u16) -> Result<(), Refusal>
-    ensures { Answers result (λ _. Number number) (λ n. (n ≡ 1) × (Number number → ⊥)) }
-{
-    if number < 1 || number > LAST {
-        return Err(Refusal::NumberOutOfRange);
-    }
-    Ok(())
-}
 
 /// Sets the mark of a number.
 fn mark(marks: &mut [bool], number: u16)

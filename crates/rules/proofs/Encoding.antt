@@ -1,9 +1,9 @@
 -- A list of entries as bytes: how long it is, that it is bytes, and that no other lawful list has the same.
-use Rattle.std.proofs.Common.{◌≡◌, ℕ, suc, ◌+◌, ◌*◌, ◌/◌, ◌%◌, ◌^◌, ◌<◌, ◌≤◌, List, [], ◌∷◌, ◌++◌, length, ℤ, pos, negsuc, ◌≤ℤ◌, sym, refl, ap, ◌∙◌, ap₂, arith, length-append}
+use Rattle.std.proofs.Common.{◌≡◌, ℕ, suc, ◌+◌, ◌*◌, ◌/◌, ◌%◌, ◌^◌, ◌<◌, ◌≤◌, List, [], ◌∷◌, ◌++◌, length, ℤ, pos, negsuc, sym, refl, ap, ◌∙◌, ap₂, arith, length-append}
 use Rattle.std.proofs.lemmas.Int.{ints}
 use Rattle.cipher.specs.Bytes.{Bytes, word, word_bytes}
 use Rattle.cipher.proofs.Bytes.{word-word_bytes}
-use Rattle.curve.specs.Curves.{Point, Curve, point, LawfulCurve}
+use Rattle.curve.specs.Curves.{Point, Curve, point, InRange, LawfulCurve}
 use Rattle.rules.specs.Registers.{Standing, in_force, withdrawn}
 use Rattle.rules.specs.Bundles.{stage_word, Entry, kind, points_in, heads, curve_bytes, body, bodies, total_points, encoding, LawfulStanding, RisesAbove, curves_in, curves, LawfulList}
 use Rattle.rules.specs.Laws.{OneList}
@@ -28,28 +28,23 @@ append_apart (k ∷ a) (m ∷ b) x y l h =
 
 -- ---- stages and points
 
-InRange : ℤ → Type 0
-InRange z = (negsuc 19999 ≤ℤ z) × (z ≤ℤ pos 60000)
+stage_low : (z : ℤ) (q : ℕ) → InRange z q → stage_word z < 2 ^ 32
+stage_low (pos n) q h = omega (arith, ints)
+stage_low (negsuc n) q h = omega arith
 
-stage_low : (z : ℤ) → InRange z → stage_word z < 2 ^ 32
-unfolding InRange
-stage_low (pos n) h = omega (arith, ints)
-stage_low (negsuc n) h = omega arith
-
-stage_one : (y z : ℤ) → InRange y → InRange z → stage_word y ≡ stage_word z → y ≡ z
-unfolding InRange
-stage_one (pos a) (pos b) h k e = ap pos e
-stage_one (pos a) (negsuc b) h k e = absurd (omega (arith, ints))
-stage_one (negsuc a) (pos b) h k e = absurd (omega (arith, ints))
-stage_one (negsuc a) (negsuc b) h k e = omega (arith, ints)
+stage_one : (y z : ℤ) (q r : ℕ) → InRange y q → InRange z r → stage_word y ≡ stage_word z → y ≡ z
+stage_one (pos a) (pos b) q r h k e = ap pos e
+stage_one (pos a) (negsuc b) q r h k e = absurd (omega (arith, ints))
+stage_one (negsuc a) (pos b) q r h k e = absurd (omega (arith, ints))
+stage_one (negsuc a) (negsuc b) q r h k e = omega (arith, ints)
 
 -- each point of a list is one that a curve may have
 Ranged : Curve → Type 0
-Ranged c = (k : ℕ) → k < length c → InRange (point c k).stage × ((point c k).flow ≤ 2000000000)
+Ranged c = (k : ℕ) → k < length c → InRange (point c k).stage (point c k).flow
 
 ranged : (c : Curve) → LawfulCurve c → Ranged c
-unfolding Ranged InRange
-ranged c L k l = ((L.low k l, L.high k l), L.flows k l)
+unfolding Ranged
+ranged c L = L.in_range
 
 rest_ranged : (p : Point) (c : Curve) → Ranged (p ∷ c) → Ranged c
 unfolding Ranged
@@ -63,8 +58,8 @@ curve_one (a ∷ u) [] l p q h = absurd (omega arith)
 curve_one (a ∷ u) (b ∷ v) l p q h =
     let x = p 0 (omega arith) in
     let y = q 0 (omega arith) in
-    let s : a.stage ≡ b.stage = stage_one a.stage b.stage x.0 y.0 (word_one (stage_word a.stage) (stage_word b.stage) (stage_low a.stage x.0) (stage_low b.stage y.0) (cc h) (cc h) (cc h) (cc h)) in
-    let f : a.flow ≡ b.flow = word_one a.flow b.flow (omega (arith, x.1)) (omega (arith, y.1)) (cc h) (cc h) (cc h) (cc h) in
+    let s : a.stage ≡ b.stage = stage_one a.stage b.stage a.flow b.flow x y (word_one (stage_word a.stage) (stage_word b.stage) (stage_low a.stage a.flow x) (stage_low b.stage b.flow y) (cc h) (cc h) (cc h) (cc h)) in
+    let f : a.flow ≡ b.flow = word_one a.flow b.flow (omega (arith, x.2)) (omega (arith, y.2)) (cc h) (cc h) (cc h) (cc h) in
     let t : u ≡ v = curve_one u v (omega arith) (rest_ranged a u p) (rest_ranged b v q) (cc h) in
     let e : a ≡ b = ap₂ {C = Point} (λ x y. record { stage = x; flow = y }) s f in
     ap₂ (λ x y. x ∷ y) e t

@@ -1,28 +1,16 @@
 -- Curve K: that it is lawful, its flows, and what lies off it.
-use Rattle.std.proofs.Common.{ℕ, zero, suc, ◌+◌, ◌<◌, ◌≤◌, [], ◌∷◌, pos, negsuc, ◌≤ℤ◌, ◌<ℤ◌, refl, arith}
+use Rattle.std.proofs.Common.{ℕ, zero, suc, ◌+◌, ◌<◌, ◌≤◌, [], ◌∷◌, pos, negsuc, ◌<ℤ◌, refl, arith}
 use Rattle.std.proofs.lemmas.Int.{ints}
 use Rattle.cipher.specs.declared.block.Block.{Block}
-use Rattle.curve.specs.Curves.{point, LawfulCurve, above, FlowAt}
+use Rattle.curve.specs.Curves.{point, InRange, LawfulCurve, above, FlowAt}
 use Rattle.rules.specs.Calls.{AllCovered, Does, convert, refused, convert_7}
 use Rattle.worked.specs.Season.{curve_k, upper_published}
 
-low : (k : ℕ) → k < 3 → negsuc 19999 ≤ℤ (point curve_k k).stage
-low zero h = omega (arith, ints)
-low (suc zero) h = omega (arith, ints)
-low (suc (suc zero)) h = omega (arith, ints)
-low (suc (suc (suc k))) h = absurd (omega arith)
-
-high : (k : ℕ) → k < 3 → (point curve_k k).stage ≤ℤ pos 60000
-high zero h = omega (arith, ints)
-high (suc zero) h = omega (arith, ints)
-high (suc (suc zero)) h = omega (arith, ints)
-high (suc (suc (suc k))) h = absurd (omega arith)
-
-flows : (k : ℕ) → k < 3 → (point curve_k k).flow ≤ 2000000000
-flows zero h = omega arith
-flows (suc zero) h = omega arith
-flows (suc (suc zero)) h = omega arith
-flows (suc (suc (suc k))) h = absurd (omega arith)
+in_range : (k : ℕ) → k < 3 → InRange (point curve_k k).stage (point curve_k k).flow
+in_range zero h = (omega (arith, ints), omega (arith, ints), omega arith)
+in_range (suc zero) h = (omega (arith, ints), omega (arith, ints), omega arith)
+in_range (suc (suc zero)) h = (omega (arith, ints), omega (arith, ints), omega arith)
+in_range (suc (suc (suc k))) h = absurd (omega arith)
 
 rises : (k : ℕ) → k + 1 < 3 → (point curve_k k).stage <ℤ (point curve_k (k + 1)).stage
 rises zero h = omega (arith, ints)
@@ -35,7 +23,7 @@ never_falls (suc zero) h = omega arith
 never_falls (suc (suc k)) h = absurd (omega arith)
 
 pub k_is_lawful : LawfulCurve curve_k
-k_is_lawful = record { least = omega arith; most = omega arith; low = low; high = high; flows = flows; rises = rises; never_falls = never_falls }
+k_is_lawful = record { least = omega arith; most = omega arith; in_range = in_range; rises = rises; never_falls = never_falls }
 
 pub k_at_100 : FlowAt curve_k (pos 100) 3500
 unfolding above

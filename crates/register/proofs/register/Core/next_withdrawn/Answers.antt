@@ -1,7 +1,8 @@
-use Rattle.std.proofs.Common.{⊎_elim, arith}
-use Rattle.std.proofs.lemmas.Bool.{cases_lt}
-use Rattle.register.proofs.Looking.{not_past}
+use Rattle.std.proofs.Common.{rules}
+use Rattle.register.specs.Looking.{Withdrawn}
+use Rattle.register.specs.Meaning.{meaning}
+use Rattle.register.proofs.Looking.{next_of, not_past}
 use Rattle.register.proofs.register.Core.next_withdrawn.Goals as goal
 
 pub returns : goal.returns
-returns c = λ n a p. ⊎_elim (λ l. c.loop-n.invariant n a (omega arith) p) (λ g. not_past c.args.self.now n g p) (cases_lt n 1025)
+returns c = next_of (Withdrawn (meaning c.args.self.now)) c.lowest_above.ensures (λ n b t. search rules) (not_past c.args.self.now)
