@@ -12,13 +12,10 @@ mod pi;
 mod schedule;
 mod tables;
 
-use cipher::block::{Block, Eight};
+use cipher::block::Block;
 use cipher::{BlockCipher, KeyedCipher};
 use refusal::Refusal;
 pub use tables::Blowfish;
-
-/// Sixteen rounds, an odd and an even one to a pair.
-const PAIRS: usize = 8;
 
 /// How many bytes a key may have.
 const SHORTEST_KEY: usize = 4;
@@ -32,26 +29,30 @@ impl BlockCipher for Blowfish {
 
     ghost inverse = { λ c. Feistel.inverse c };
 
+    // in a chain each block waits for this one, and a call around it costs one part in ten
+    #[inline(always)]
     fn encipher(&self, block: Block) -> Block {
-        self.forward(PAIRS, block)
+        self.forward_one(block)
     }
 
     fn decipher(&self, block: Block) -> Block {
-        self.backward(PAIRS, block)
+        let [block] = self.backward([block]);
+        block
     }
 
-    fn encipher_eight(&self, blocks: Eight) -> Eight {
-        Eight {
-            low: self.forward_four(PAIRS, blocks.low),
-            high: self.forward_four(PAIRS, blocks.high),
-        }
+    // two fours: eight at once want more registers than there are, and take over half as long again
+    fn encipher_eight(&self, blocks: [Block; 8]) -> [Block; 8] {
+        let [a, b, c, d, e, f, g, h] = blocks;
+        let [p, q, r, s] = self.forward([a, b, c, d]);
+        let [t, u, v, w] = self.forward([e, f, g, h]);
+        [p, q, r, s, t, u, v, w]
     }
 
-    fn decipher_eight(&self, blocks: Eight) -> Eight {
-        Eight {
-            low: self.backward_four(PAIRS, blocks.low),
-            high: self.backward_four(PAIRS, blocks.high),
-        }
+    fn decipher_eight(&self, blocks: [Block; 8]) -> [Block; 8] {
+        let [a, b, c, d, e, f, g, h] = blocks;
+        let [p, q, r, s] = self.backward([a, b, c, d]);
+        let [t, u, v, w] = self.backward([e, f, g, h]);
+        [p, q, r, s, t, u, v, w]
     }
 }
 
@@ -59,7 +60,7 @@ impl BlockCipher for Blowfish {
 fn lawful(length: usize) -> bool
     ensures { MatchBool result (Takes length) (Takes length → ⊥) }
 {
-    SHORTEST_KEY <= length && length <= LONGEST_KEY
+    (SHORTEST_KEY..=LONGEST_KEY).contains(&length)
 }
 
 impl KeyedCipher for Blowfish {

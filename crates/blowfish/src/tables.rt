@@ -1,12 +1,10 @@
 //! The tables, and the rounds over them.
-ghost use Rattle.std.specs.Prelude.{◌≡◌, ◌*◌, ◌<◌, ◌≤◌};
-ghost use Rattle.cipher.specs.Eights.{each_of_four};
-ghost use Rattle.blowfish.specs.Blowfish.{f as f_of, pword, turned, odd_back_of, even_back_of, begun, exchanged, enciphering, deciphering};
-ghost use Rattle.blowfish.specs.Pi.{pi_p, pi_s};
+ghost use Rattle.std.specs.Prelude.{◌≡◌, ◌≤◌, map};
+ghost use Rattle.blowfish.specs.Blowfish.{f as f_of, turned, odd_back_of, even_back_of, begun, exchanged, enciphered, deciphered};
 ghost use Rattle.blowfish.specs.Schedule.{initial};
 
 use crate::pi;
-use cipher::block::{Block, Four};
+use cipher::block::Block;
 
 /// Blowfish under the key that was loaded last; at the tables of pi before any load.
 #[derive(Clone, Copy)]
@@ -25,18 +23,18 @@ fn exchange(block: Block) -> Block
     }
 }
 
+/// Two words of P in the halves.
+fn begin(left: u32, right: u32, block: Block) -> Block
+    ensures { result ≡ begun left right block }
+{
+    block ^ Block { left, right }
+}
+
 impl Blowfish {
     /// Blowfish at the tables of pi themselves, under no key.
+    #[tactic(auto, unfolding(crate::specs::Schedule::initial))]
     pub fn new() -> Blowfish
         ensures { result ≡ initial }
-    {
-        Blowfish::digits()
-    }
-
-    /// The digits of pi, table by table.
-    fn digits() -> Blowfish
-        ensures p { result.p ≡ pi_p }
-        ensures s { result.s ≡ pi_s }
     {
         Blowfish { p: pi::P, s: pi::S }
     }
@@ -52,140 +50,93 @@ impl Blowfish {
         (a.wrapping_add(b) ^ c).wrapping_add(d)
     }
 
-    /// Word i of P, which is kept in pairs.
-    fn word(&self, i: usize) -> u32
-        requires { i < 18 }
-        ensures { result ≡ pword self.now i }
-    {
-        self.p[i / 2][i % 2]
-    }
-
-    /// One round on halves that have their words of P in them already, and the halves exchanged.
-    fn turn(&self, i: usize, block: Block) -> Block
-        requires { i < 16 }
-        ensures { result ≡ turned self.now i block }
+    /// One round on halves that have their words of P in them already; the next word for the half that waits; and the halves exchanged.
+    #[tactic(auto, unfolding(crate::specs::Blowfish::turned))]
+    fn turn(&self, word: u32, block: Block) -> Block
+        ensures { result ≡ turned self.now word block }
     {
         Block {
             left: block.right ^ self.f(block.left),
-            right: block.left ^ self.word(i + 2),
+            right: block.left ^ word,
         }
     }
 
+    /// Two rounds so.
+    fn turns(&self, odd: u32, even: u32, block: Block) -> Block
+        ensures { result ≡ turned self.now even (turned self.now odd block) }
+    {
+        self.turn(even, self.turn(odd, block))
+    }
+
     /// The odd round undone.
-    fn odd_back(&self, i: usize, block: Block) -> Block
-        requires { i < 18 }
-        ensures { result ≡ odd_back_of self.now i block }
+    #[tactic(auto, unfolding(crate::specs::Blowfish::odd_back_of))]
+    fn odd_back(&self, word: u32, block: Block) -> Block
+        ensures { result ≡ odd_back_of self.now word block }
     {
         // f first, since the next round waits for it
         let right = block.right ^ self.f(block.left);
         Block {
-            left: block.left ^ self.word(i),
+            left: block.left ^ word,
             right,
         }
     }
 
     /// The even round undone.
-    fn even_back(&self, i: usize, block: Block) -> Block
-        requires { i < 18 }
-        ensures { result ≡ even_back_of self.now i block }
+    #[tactic(auto, unfolding(crate::specs::Blowfish::even_back_of))]
+    fn even_back(&self, word: u32, block: Block) -> Block
+        ensures { result ≡ even_back_of self.now word block }
     {
         Block {
             left: block.left ^ self.f(block.right),
-            right: block.right ^ self.word(i),
+            right: block.right ^ word,
         }
     }
 
-    /// The words of P of the numbers i and i + 1 in the halves.
-    fn begin(&self, i: usize, block: Block) -> Block
-        requires { i < 17 }
-        ensures { result ≡ begun self.now i block }
+    /// Two rounds undone.
+    fn pair_back(&self, odd: u32, even: u32, block: Block) -> Block
+        ensures { result ≡ odd_back_of self.now odd (even_back_of self.now even block) }
     {
-        Block {
-            left: block.left ^ self.word(i),
-            right: block.right ^ self.word(i + 1),
-        }
+        self.odd_back(odd, self.even_back(even, block))
     }
 
-    /// What stood before a block left.
-    fn open(&self, n: usize, block: Block) -> Block
-        requires { n ≤ 8 }
-        ensures { result ≡ begun self.now (2 * n) (exchanged block) }
+    /// One block through all rounds.
+    // a twin of `forward`: the halves of an array of one are packed into one word and unpacked, which makes a block 8 in 100 slower
+    pub(crate) fn forward_one(&self, block: Block) -> Block
+        ensures { result ≡ enciphered self.now block }
     {
-        self.begin(2 * n, exchange(block))
-    }
-
-    /// One block through `n` pairs of rounds.
-    // Each round's word of P is xored in a round early: one xor less stands between a round and the next.
-    pub(crate) fn forward(&self, n: usize, block: Block) -> Block
-        requires { n ≤ 8 }
-        ensures { result ≡ enciphering self.now n block }
-    {
-        let mut x = self.begin(0, block);
-        for i in 0..2 * n {
-            x = self.turn(i, x);
+        let [left, right] = self.p[0];
+        let mut x = begin(left, right, block);
+        let rest = &self.p[1..];
+        for &[odd, even] in rest {
+            x = self.turns(odd, even, x);
         }
         exchange(x)
     }
 
-    /// One block back through `n` pairs of rounds.
-    pub(crate) fn backward(&self, n: usize, block: Block) -> Block
-        requires { n ≤ 8 }
-        ensures { result ≡ deciphering self.now n block }
+    /// Blocks through all rounds, each pair of rounds for every block before the next pair.
+    // Each round's word of P is xored in a round early: one xor less stands between a round and the next.
+    pub(crate) fn forward<const N: usize>(&self, blocks: [Block; N]) -> [Block; N]
+        requires { N ≤ 4 }
+        ensures { result ≡ map (enciphered self.now) blocks.entry }
     {
-        let mut x = self.open(n, block);
-        for j in (0..n).rev() {
-            x = self.odd_back(2 * j, self.even_back(2 * j + 1, x));
+        let [left, right] = self.p[0];
+        let mut blocks = blocks.map(|block| begin(left, right, block));
+        for &[odd, even] in &self.p[1..] {
+            blocks = blocks.map(|block| self.turns(odd, even, block));
         }
-        x
+        blocks.map(exchange)
     }
 
-    /// Four blocks through `n` pairs of rounds, round by round.
-    pub(crate) fn forward_four(&self, n: usize, blocks: Four) -> Four
-        requires { n ≤ 8 }
-        ensures { result ≡ each_of_four (enciphering self.now n) blocks }
+    /// Blocks back through all rounds, each pair of rounds for every block before the next pair.
+    pub(crate) fn backward<const N: usize>(&self, blocks: [Block; N]) -> [Block; N]
+        requires { N ≤ 4 }
+        ensures { result ≡ map (deciphered self.now) blocks.entry }
     {
-        let mut first = self.begin(0, blocks.first);
-        let mut second = self.begin(0, blocks.second);
-        let mut third = self.begin(0, blocks.third);
-        let mut fourth = self.begin(0, blocks.fourth);
-        for i in 0..2 * n {
-            first = self.turn(i, first);
-            second = self.turn(i, second);
-            third = self.turn(i, third);
-            fourth = self.turn(i, fourth);
+        let [left, right] = self.p[8];
+        let mut blocks = blocks.map(|block| begin(left, right, exchange(block)));
+        for &[odd, even] in self.p[..8].iter().rev() {
+            blocks = blocks.map(|block| self.pair_back(odd, even, block));
         }
-        Four {
-            first: exchange(first),
-            second: exchange(second),
-            third: exchange(third),
-            fourth: exchange(fourth),
-        }
-    }
-
-    /// Four blocks back through `n` pairs of rounds, round by round.
-    pub(crate) fn backward_four(&self, n: usize, blocks: Four) -> Four
-        requires { n ≤ 8 }
-        ensures { result ≡ each_of_four (deciphering self.now n) blocks }
-    {
-        let mut first = self.open(n, blocks.first);
-        let mut second = self.open(n, blocks.second);
-        let mut third = self.open(n, blocks.third);
-        let mut fourth = self.open(n, blocks.fourth);
-        for j in (0..n).rev() {
-            first = self.even_back(2 * j + 1, first);
-            second = self.even_back(2 * j + 1, second);
-            third = self.even_back(2 * j + 1, third);
-            fourth = self.even_back(2 * j + 1, fourth);
-            first = self.odd_back(2 * j, first);
-            second = self.odd_back(2 * j, second);
-            third = self.odd_back(2 * j, third);
-            fourth = self.odd_back(2 * j, fourth);
-        }
-        Four {
-            first,
-            second,
-            third,
-            fourth,
-        }
+        blocks
     }
 }

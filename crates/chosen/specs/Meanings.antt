@@ -8,24 +8,20 @@
 use Rattle.std.specs.Prelude.{List, ◌≡◌, ℕ, length, replicate}
 use Rattle.blowfish.specs.Blowfish as blowfish
 use Rattle.blowfish.specs.Schedule.{Takes, initial, scheduled}
+use Rattle.cipher.specs.Cases.{by_case}
 use Rattle.cipher.specs.declared.block.Block.{Block}
+use Rattle.cipher.specs.declared.one_of.OneOf.TheVariants.{First as Blowfish, Second as Xtea}
 use Rattle.xtea.specs.Xtea as xtea
 use Rattle.xtea.specs.Xtea.{key_words}
-use Rattle.chosen.specs.declared.Chosen.{Chosen}
-use Rattle.chosen.specs.declared.Chosen.TheVariants.{One, Three}
-use Rattle.chosen.specs.declared.Keyed.{Keyed}
-use Rattle.chosen.specs.declared.Keyed.TheVariants.{Blowfish, Xtea}
 use Rattle.chosen.specs.declared.Kind.{Kind}
 use Rattle.chosen.specs.declared.Kind.TheVariants as kind
-use Rattle.chosen.specs.Kinds.{keyed_kind}
+use Rattle.chosen.specs.Kinds.{Keyed, Chosen, keyed_kind}
 
 abbrev pub keyed_enc : Keyed → Block → Block
-keyed_enc (Blowfish x) b = blowfish.enciphered x b
-keyed_enc (Xtea x) b = xtea.enciphered x.key b
+keyed_enc = by_case blowfish.enciphered (λ x. xtea.enciphered x.key)
 
 abbrev pub keyed_dec : Keyed → Block → Block
-keyed_dec (Blowfish x) b = blowfish.deciphered x b
-keyed_dec (Xtea x) b = xtea.deciphered x.key b
+keyed_dec = by_case blowfish.deciphered (λ x. xtea.deciphered x.key)
 
 -- the lengths of key that a kind takes; a triple takes none
 abbrev pub Lengths : Kind → ℕ → Type 0
@@ -49,12 +45,10 @@ Loaded s t key =
     (Lengths (keyed_kind s) (length key) × (keyed_enc t ≡ enc_under (keyed_kind s) key) × (keyed_dec t ≡ dec_under (keyed_kind s) key)) × (keyed_kind t ≡ keyed_kind s)
 
 abbrev pub chosen_enc : Chosen → Block → Block
-chosen_enc (One c) b = keyed_enc c b
-chosen_enc (Three t) b = keyed_enc t.third (keyed_dec t.second (keyed_enc t.first b))
+chosen_enc = by_case keyed_enc (λ t b. keyed_enc t.third (keyed_dec t.second (keyed_enc t.first b)))
 
 abbrev pub chosen_dec : Chosen → Block → Block
-chosen_dec (One c) b = keyed_dec c b
-chosen_dec (Three t) b = keyed_dec t.first (keyed_enc t.second (keyed_dec t.third b))
+chosen_dec = by_case keyed_dec (λ t b. keyed_dec t.first (keyed_enc t.second (keyed_dec t.third b)))
 
 abbrev pub Fresh : Kind → Keyed → Type 0
 Fresh kind.Blowfish c = c ≡ Blowfish initial

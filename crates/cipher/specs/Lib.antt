@@ -1,7 +1,7 @@
 pub mod Blocks
 pub mod Bytes
-pub mod Eights
 pub mod Keys
 pub mod Rounds
 pub mod Words
 pub mod Inverses
+pub mod Cases

@@ -1,21 +1,22 @@
 //! Block ciphers: what a block is, what a cipher means, and how ciphers are joined.
 //!
 //! `BlockCipher` has two functions on blocks, E and D, that undo each other; `KeyedCipher` also loads keys;
-//! `Triple` joins three ciphers to one. Public: `block::Block` with `from_bytes` and `to_bytes`,
-//! `BlockCipher`, `KeyedCipher`, `Triple`, `encipher_under`.
+//! `Triple` joins three ciphers to one, `OneOf` is a cipher of either of two types. Public: `block::Block`, which
+//! is made of eight bytes and into them and xored with `^`, `BlockCipher`, `KeyedCipher`, `OneOf`, `Triple`, `encipher_under`.
 #![tactic(auto)]
 
-ghost use Rattle.std.specs.Prelude.{◌≡◌, ℕ, List, length};
+ghost use Rattle.std.specs.Prelude.{◌≡◌, ℕ, List, length, map};
 ghost use Rattle.refusal.specs.Refusals.{Answers};
 ghost use Rattle.cipher.specs.declared.block.Block.{Block as B};
 ghost use Rattle.cipher.specs.Blocks.{Inverse};
-ghost use Rattle.cipher.specs.Keys.{Alike};
-ghost use Rattle.cipher.specs.Eights.{each_of_eight};
+ghost use Rattle.cipher.specs.Keys.{Stays};
 
 pub mod block;
+mod one_of;
 mod triple;
 
-use block::{Block, Eight, Four};
+use block::Block;
+pub use one_of::OneOf;
 use refusal::Refusal;
 pub use triple::Triple;
 
@@ -34,43 +35,17 @@ pub trait BlockCipher {
         ensures { result ≡ dec self.now block };
 
     /// E of each of eight blocks, for a cipher that is faster so.
-    fn encipher_eight(&self, blocks: Eight) -> Eight
-        ensures { result ≡ each_of_eight (enc self.now) blocks }
+    fn encipher_eight(&self, blocks: [Block; 8]) -> [Block; 8]
+        ensures { result ≡ map (enc self.now) blocks }
     {
-        Eight {
-            low: Four {
-                first: self.encipher(blocks.low.first),
-                second: self.encipher(blocks.low.second),
-                third: self.encipher(blocks.low.third),
-                fourth: self.encipher(blocks.low.fourth),
-            },
-            high: Four {
-                first: self.encipher(blocks.high.first),
-                second: self.encipher(blocks.high.second),
-                third: self.encipher(blocks.high.third),
-                fourth: self.encipher(blocks.high.fourth),
-            },
-        }
+        blocks.map(|block| self.encipher(block))
     }
 
     /// D of each of eight blocks.
-    fn decipher_eight(&self, blocks: Eight) -> Eight
-        ensures { result ≡ each_of_eight (dec self.now) blocks }
+    fn decipher_eight(&self, blocks: [Block; 8]) -> [Block; 8]
+        ensures { result ≡ map (dec self.now) blocks }
     {
-        Eight {
-            low: Four {
-                first: self.decipher(blocks.low.first),
-                second: self.decipher(blocks.low.second),
-                third: self.decipher(blocks.low.third),
-                fourth: self.decipher(blocks.low.fourth),
-            },
-            high: Four {
-                first: self.decipher(blocks.high.first),
-                second: self.decipher(blocks.high.second),
-                third: self.decipher(blocks.high.third),
-                fourth: self.decipher(blocks.high.fourth),
-            },
-        }
+        blocks.map(|block| self.decipher(block))
     }
 
     ghost inverse: { (c : Self) → Inverse (enc c) (dec c) };
@@ -92,9 +67,7 @@ pub trait KeyedCipher: BlockCipher {
             × (Self.BlockCipher.enc self.new ≡ enc_under self.old key.now)
             × (Self.BlockCipher.dec self.new ≡ dec_under self.old key.now))
             (λ n. (n ≡ 16) × (takes self.old (length key.now) → ⊥) × (self.new ≡ self.old)) }
-        ensures stays { Alike (takes self.new) (takes self.old)
-            × (enc_under self.new ≡ enc_under self.old)
-            × (dec_under self.new ≡ dec_under self.old) };
+        ensures stays { Stays (takes self.new) (enc_under self.new) (dec_under self.new) (takes self.old) (enc_under self.old) (dec_under self.old) };
 }
 
 /// One block under a key, by any keyed cipher, which then stands under that key.
@@ -109,9 +82,8 @@ pub fn encipher_under<K: KeyedCipher>(
         × (K.BlockCipher.enc cipher.new ≡ K.KeyedCipher.enc_under cipher.old key.now)
         × (K.BlockCipher.dec cipher.new ≡ K.KeyedCipher.dec_under cipher.old key.now))
         (λ n. (n ≡ 16) × (K.KeyedCipher.takes cipher.old (length key.now) → ⊥) × (cipher.new ≡ cipher.old)) }
-    ensures stays { Alike (K.KeyedCipher.takes cipher.new) (K.KeyedCipher.takes cipher.old)
-        × (K.KeyedCipher.enc_under cipher.new ≡ K.KeyedCipher.enc_under cipher.old)
-        × (K.KeyedCipher.dec_under cipher.new ≡ K.KeyedCipher.dec_under cipher.old) }
+    ensures stays { Stays (K.KeyedCipher.takes cipher.new) (K.KeyedCipher.enc_under cipher.new) (K.KeyedCipher.dec_under cipher.new)
+        (K.KeyedCipher.takes cipher.old) (K.KeyedCipher.enc_under cipher.old) (K.KeyedCipher.dec_under cipher.old) }
 {
     cipher.load_key(key)?;
     Ok(cipher.encipher(block))

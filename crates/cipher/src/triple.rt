@@ -2,10 +2,10 @@
 ghost use Rattle.cipher.specs.Inverses;
 
 use crate::BlockCipher;
-use crate::block::{Block, Eight};
+use crate::block::Block;
 
 /// E is the first cipher's E, then the second's D, then the third's E.
-#[derive(Clone, Copy)]
+#[derive(Clone, Copy, PartialEq, Eq, Debug)]
 pub struct Triple<X, Y, Z> {
     pub first: X,
     pub second: Y,
@@ -29,14 +29,16 @@ impl<X: BlockCipher, Y: BlockCipher, Z: BlockCipher> BlockCipher for Triple<X, Y
             .decipher(self.second.encipher(self.third.decipher(block)))
     }
 
-    fn encipher_eight(&self, blocks: Eight) -> Eight {
+    #[tactic(auto, using(crate::proofs::Eights::in_turn))]
+    fn encipher_eight(&self, blocks: [Block; 8]) -> [Block; 8] {
         self.third.encipher_eight(
             self.second
                 .decipher_eight(self.first.encipher_eight(blocks)),
         )
     }
 
-    fn decipher_eight(&self, blocks: Eight) -> Eight {
+    #[tactic(auto, using(crate::proofs::Eights::in_turn))]
+    fn decipher_eight(&self, blocks: [Block; 8]) -> [Block; 8] {
         self.first.decipher_eight(
             self.second
                 .encipher_eight(self.third.decipher_eight(blocks)),

@@ -1,65 +1,54 @@
--- Looking for the first pair of neighbours that holds a stage.
-use Rattle.std.proofs.Common.{◌≡◌, ℕ, ◌+◌, ◌-◌, ◌<◌, ◌≤◌, min, List, length, ℤ, ◌≤ℤ◌, Some, None, sym, ap, ◌∙◌, subst, ap₂, arith}
-use native.Mathlib.Decide.{ℕ_discrete}
-use Rattle.curve.specs.Answers.{HoldsAt, Found, Lawfully}
+-- The first pair of neighbours that holds a stage, and the flow there.
+use Rattle.std.proofs.Common.{◌≡◌, ℕ, ◌+◌, ◌<◌, List, length, ℤ, ◌≤ℤ◌, Some, None, Option, MatchOption, sym, ◌∙◌, subst, ap₂, arith}
+use Rattle.curve.specs.Answers.{Holds, Found, Lawfully}
 use Rattle.curve.specs.Curves.{Curve, point, pair, points, flow_between, Between}
 use Rattle.curve.proofs.Neighbours.{any_pair, flow_there, flow_covered}
 use Rattle.curve.proofs.Points.{point_at, points_enough, length-points, length_points_flows}
 
-pub record Answered (c : Curve) (s : ℤ) (q : ℕ) : Type 0 where
-  pub first : Found c s (Some q)
-  pub lawful : Lawfully c s (Some q)
+pub record Answered (c : Curve) (s : ℤ) (r : Option ℕ) : Type 0 where
+  pub first : Found c s r
+  pub lawful : Lawfully c s r
 
 module _ (ss : List ℤ) (qs : List ℕ) (s : ℤ) where
-  -- no pair below i holds the stage
-  abbrev pub NoneBelow : ℕ → Type 0
-  NoneBelow i = (j : ℕ) → j + 1 < i → Between (points ss qs) j s → ⊥
+  -- the neighbours from place k hold the stage
+  abbrev pub HoldsFrom : ℕ → Type 0
+  HoldsFrom k = Holds (pair ss qs k).stage (pair ss qs (k + 1)).stage s
 
-  module _ (i : ℕ) (one : 1 ≤ i) (h : i < length ss) (k : i < length qs) where
-    back : (i - 1) + 1 ≡ i
-    back = omega arith
+  module _ (k : ℕ) (h : k + 1 < length ss) (l : k + 1 < length qs) where
+    low : point (points ss qs) k ≡ pair ss qs k
+    low = point_at ss qs k (omega arith) (omega arith)
 
-    low : point (points ss qs) (i - 1) ≡ pair ss qs (i - 1)
-    low = point_at ss qs (i - 1) (omega arith) (omega arith)
+    high : point (points ss qs) (k + 1) ≡ pair ss qs (k + 1)
+    high = point_at ss qs (k + 1) h l
 
-    high : point (points ss qs) ((i - 1) + 1) ≡ pair ss qs i
-    high = ap (point (points ss qs)) back ∙ point_at ss qs i h k
-
-    holds_between : HoldsAt ss s i → Between (points ss qs) (i - 1) s
+    holds_between : HoldsFrom k → Between (points ss qs) k s
     holds_between (a, b) =
-        let n = points_enough ss qs (i + 1) (omega arith) (omega arith) in
         record {
-          neighbour = omega (arith, n, back);
+          neighbour = omega (arith, points_enough ss qs (k + 2) (omega arith) (omega arith));
           from = subst (λ p. p.stage ≤ℤ s) (sym low) a;
           to = subst (λ p. s ≤ℤ p.stage) (sym high) b;
         }
 
-    between_holds : (j : ℕ) → j + 1 ≡ i → Between (points ss qs) j s → HoldsAt ss s i
-    between_holds j e b =
-        let f : i - 1 ≡ j = omega (arith, e) in (
-          subst (λ p. p.stage ≤ℤ s) (ap (point (points ss qs)) (sym f) ∙ low) b.from,
-          subst (λ p. s ≤ℤ p.stage) (ap (λ m. point (points ss qs) (m + 1)) (sym f) ∙ high) b.to,
-        )
+    flow_is : (q : ℕ) → q ≡ flow_between (pair ss qs k) (pair ss qs (k + 1)) s → q ≡ flow_between (point (points ss qs) k) (point (points ss qs) (k + 1)) s
+    flow_is q e = e ∙ sym (ap₂ (λ x y. flow_between x y s) low high)
 
-    pub none_more : NoneBelow i → (HoldsAt ss s i → ⊥) → NoneBelow (i + 1)
-    none_more below not j l b = go (ℕ_discrete (j + 1) i)
-      where
-        go : Dec (j + 1 ≡ i) → ⊥
-        go (yes e) = not (between_holds j e b)
-        go (no d) = below j (omega (arith, d)) b
+  between_holds : (k : ℕ) → Between (points ss qs) k s → HoldsFrom k
+  between_holds k b =
+      let h : k + 1 < length ss = omega (arith, b.neighbour, length-points ss qs) in
+      let l : k + 1 < length qs = omega (arith, b.neighbour, length_points_flows ss qs) in
+      (subst (λ p. p.stage ≤ℤ s) (low k h l) b.from, subst (λ p. s ≤ℤ p.stage) (high k h l) b.to)
 
-    pub answered : NoneBelow i → HoldsAt ss s i → (q : ℕ) → q ≡ flow_between (pair ss qs (i - 1)) (pair ss qs i) s → Answered (points ss qs) s q
-    answered below at q e =
-        let b = holds_between at in
-        let v : q ≡ flow_between (point (points ss qs) (i - 1)) (point (points ss qs) ((i - 1) + 1)) s = e ∙ sym (ap₂ (λ x y. flow_between x y s) low high) in
-        record {
-          first = record { place = i - 1; holds = b; first = λ j l. below j (omega arith); value = v };
-          lawful = λ L. (flow_covered (points ss qs) L s q (i - 1, b, v), λ m d. v ∙ any_pair (points ss qs) L (i - 1) m s b d);
-        }
+  abbrev pub First : ℕ → Type 0
+  First q = (k : ℕ) × (k + 1 < length ss) × (k + 1 < length qs) × (HoldsFrom k × (q ≡ flow_between (pair ss qs k) (pair ss qs (k + 1)) s)) × ((j : ℕ) → j < k → HoldsFrom j → ⊥)
 
-  -- there is none left to look at
-  pub none_all : (i : ℕ) → min (length ss) (length qs) ≤ i → NoneBelow i → (j : ℕ) → Between (points ss qs) j s → ⊥
-  none_all i h below j b = below j (omega (arith, b.neighbour, length-points ss qs, length_points_flows ss qs)) b
-
-  pub not_covered : ((j : ℕ) → Between (points ss qs) j s → ⊥) → Lawfully (points ss qs) s None
-  not_covered none L c = let (q, (k, b, e)) = flow_there (points ss qs) L s c in none k b
+  pub answered : (r : Option ℕ) → MatchOption r ((k : ℕ) → k + 1 < length ss → k + 1 < length qs → HoldsFrom k → ⊥) First → Answered (points ss qs) s r
+  answered None none =
+      let no : (k : ℕ) → Between (points ss qs) k s → ⊥ = λ k b. none k (omega (arith, b.neighbour, length-points ss qs)) (omega (arith, b.neighbour, length_points_flows ss qs)) (between_holds k b) in
+      record { first = no; lawful = λ L c. (let (q, (k, b, e)) = flow_there (points ss qs) L s c in no k b) }
+  answered (Some q) (k, h, l, (at, e), before) =
+      let b = holds_between k h l at in
+      let v = flow_is k h l q e in
+      record {
+        first = record { place = k; holds = b; first = λ j m d. before j m (between_holds j d); value = v };
+        lawful = λ L. (flow_covered (points ss qs) L s q (k, b, v), λ m d. v ∙ any_pair (points ss qs) L k m s b d);
+      }

@@ -3,3 +3,4 @@ pub mod Finding
 pub mod Lines
 pub mod Neighbours
 pub mod Points
+pub mod Windows

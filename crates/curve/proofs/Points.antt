@@ -1,7 +1,7 @@
 -- The points of two lists, place by place.
-use Rattle.std.proofs.Common.{◌≡◌, ℕ, zero, suc, ◌+◌, ◌-◌, ◌<◌, ◌≤◌, List, [], ◌∷◌, length, get_or, ℤ, pos, sym, refl, subst, subst₂, arith}
-use native.Mathlib.Decide.{ℕ_discrete, dec_lt}
-use Rattle.curve.specs.Answers.{Step}
+use Rattle.std.proofs.Common.{◌≡◌, ℕ, zero, suc, ◌+◌, ◌-◌, ◌<◌, ◌≤◌, List, [], ◌∷◌, length, ℤ, sym, refl, subst, subst₂, arith}
+use native.Mathlib.Decide.{dec_lt}
+use Rattle.curve.specs.Answers.{Step, StepAt}
 use Rattle.curve.specs.Curves.{Point, point, pair, points, LawfulCurve, Makes, InRange}
 
 pub length-points : (ss : List ℤ) (qs : List ℕ) → length (points ss qs) ≤ length ss
@@ -26,9 +26,6 @@ point_at [] qs k h l = absurd (omega arith)
 point_at (s ∷ ss) [] k h l = absurd (omega arith)
 point_at (s ∷ ss) (q ∷ qs) zero h l = refl
 point_at (s ∷ ss) (q ∷ qs) (suc k) h l = point_at ss qs k (omega arith) (omega arith)
-
-abbrev pub StepAt : List ℤ → List ℕ → ℕ → Type 0
-StepAt ss qs k = Step (get_or ss k (pos 0)) (get_or qs k 0) (get_or ss (k + 1) (pos 0)) (get_or qs (k + 1) 0)
 
 abbrev StepOf : Point → Point → Type 0
 StepOf p q = Step p.stage p.flow q.stage q.flow
@@ -75,14 +72,3 @@ module _ (ss : List ℤ) (qs : List ℕ) (same : length ss ≡ length qs) where
 -- what a lawful curve says of its lists
 pub makes_size : (ss : List ℤ) (qs : List ℕ) → Makes ss qs → (length ss ≡ length qs) × (2 ≤ length ss) × (length ss ≤ 16)
 makes_size ss qs (same, L) = let n = enough ss qs same in (same, omega (arith, L.least), omega (arith, L.most))
-
--- one more step holds
-pub steps_more : (ss : List ℤ) (qs : List ℕ) (i : ℕ) → 1 ≤ i → ((k : ℕ) → k + 1 < i → StepAt ss qs k)
-    → Step (get_or ss (i - 1) (pos 0)) (get_or qs (i - 1) 0) (get_or ss i (pos 0)) (get_or qs i 0) → (k : ℕ) → k + 1 < i + 1 → StepAt ss qs k
-steps_more ss qs i one below now k h = go (ℕ_discrete (k + 1) i)
-  where
-    go : Dec (k + 1 ≡ i) → StepAt ss qs k
-    go (yes e) =
-        let f : i - 1 ≡ k = omega (arith, e) in
-        subst₂ (λ a b. Step (get_or ss a (pos 0)) (get_or qs a 0) (get_or ss b (pos 0)) (get_or qs b 0)) f (sym e) now
-    go (no d) = below k (omega (arith, d))

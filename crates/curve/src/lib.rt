@@ -1,118 +1,70 @@
 //! Rating curves: which are lawful, and the flow at a stage.
 //!
-//! A curve is given by a list of stages and a list of flows. Public: `makes_curve`, `flow`, and
-//! `any_pair_gives_the_flow`, which does nothing and whose contract is the laws of curves.
+//! A curve is given by a list of stages and a list of flows. Public: `Curve`, which is two lists that make a lawful curve,
+//! with `new` and `flow`; `makes_curve` and `flow`, of any two lists; and `any_pair_gives_the_flow`, which does nothing and
+//! whose contract is the laws of curves.
 #![tactic(auto)]
 
-ghost use Rattle.std.specs.Prelude.{◌≡◌, ◌+◌, ◌-◌, ◌*◌, ◌/◌, ◌<◌, ◌≤◌, length, ◌≤ℤ◌, Decides};
-ghost use Rattle.curve.specs.Answers.{Step, HoldsAt, Found, Lawfully};
-ghost use Rattle.curve.specs.Curves.{pair, points, InRange, Makes, above, flow_between};
+ghost use Rattle.std.specs.Prelude.{◌≡◌, ℕ, ◌+◌, ◌<◌, length, pos, Decides, IsSome, IfSome, ◌↔◌, slice_index, slice_index_or};
+ghost use Rattle.curve.specs.Answers.{StepAt, Found, FlowOf, Lawfully};
+ghost use Rattle.curve.specs.Curves.{points, Makes};
 ghost use Rattle.curve.specs.Laws.{CurveLaws};
 
-const LOWEST: i32 = -20000;
+mod line;
 
-const HIGHEST: i32 = 60000;
+use line::Segment;
 
-const MOST: u32 = 2_000_000_000;
+/// Two lists that make a lawful curve.
+// a device keeps a curve in two arrays, so it is lent as the two lists that lie there
+#[derive(Clone, Copy)]
+pub struct Curve<'a> {
+    pub stages: &'a [i32],
+    pub flows: &'a [u32],
+    pub ghost lawful: { Makes stages.now flows.now },
+}
 
-/// Whether a curve may have a point so.
-fn in_range(stage: i32, flow: u32) -> bool
-    ensures { Decides result (InRange stage flow) }
-{
-    if stage < LOWEST {
-        return false;
+impl<'a> Curve<'a> {
+    /// The curve of two lists, where they make a lawful one.
+    pub fn new(stages: &'a [i32], flows: &'a [u32]) -> Option<Curve<'a>>
+        ensures made { IsSome result ↔ Makes stages.now flows.now }
+        ensures same { IfSome result (λ c. (c.stages.now ≡ stages.now) × (c.flows.now ≡ flows.now)) }
+    {
+        if !makes_curve(stages, flows) {
+            return None;
+        }
+        Some(Curve { stages, flows })
     }
-    if stage > HIGHEST {
-        return false;
+
+    /// The flow at a stage, none exactly where the curve does not cover it.
+    pub fn flow(self, stage: i32) -> Option<u32>
+        ensures { FlowOf (points self.entry.stages.now self.entry.flows.now) stage result }
+    {
+        flow(self.stages, self.flows, stage)
     }
-    flow <= MOST
 }
 
-/// Whether a point (t, r) may follow a point (s, q).
-fn step(s: i32, q: u32, t: i32, r: u32) -> bool
-    ensures { Decides result (Step s q t r) }
-{
-    if !in_range(s, q) {
-        return false;
-    }
-    if !in_range(t, r) {
-        return false;
-    }
-    if s >= t {
-        return false;
-    }
-    q <= r
-}
-
-/// How far a stage lies above another that is not above it.
-fn height(low: i32, high: i32) -> u64
-    requires { low ≤ℤ high }
-    ensures value { result ≡ above low high }
-    ensures small { result < 4294967296 }
-{
-    (i64::from(high) - i64::from(low)) as u64
-}
-
-/// What a rise of the flow comes to at a part of the way, rounded down: no more than the rise.
-fn share(rise: u64, part: u64, way: u64) -> u64
-    requires rise { rise < 4294967296 }
-    requires part { part ≤ way }
-    requires way { way < 4294967296 }
-    requires some { 0 < way }
-    ensures value { result ≡ rise * part / way }
-    ensures within { result ≤ rise }
-{
-    rise * part / way
-}
-
-/// The flow at a stage between two points that hold it, rounded down.
-fn between(s1: i32, q1: u32, s2: i32, q2: u32, stage: i32) -> u32
-    requires from { s1 ≤ℤ stage }
-    requires to { stage ≤ℤ s2 }
-    ensures { result ≡ flow_between (record { stage = s1; flow = q1 }) (record { stage = s2; flow = q2 }) stage }
-{
-    let span = height(s1, s2);
-    if span == 0 {
-        return q1;
-    }
-    let part = height(s1, stage);
-    q1 + share(u64::from(q2.saturating_sub(q1)), part, span) as u32
-}
-
-/// The flow at a stage by the pair of points that ends at place i and holds it.
-fn flow_by(stages: &[i32], flows: &[u32], i: usize, stage: i32) -> u32
-    requires one { 1 ≤ i }
-    requires stages { i < length stages.now }
-    requires flows { i < length flows.now }
-    requires holds { HoldsAt stages.now stage i }
-    ensures { result ≡ flow_between (pair stages.now flows.now (i - 1)) (pair stages.now flows.now i) stage }
-{
-    between(stages[i - 1], flows[i - 1], stages[i], flows[i], stage)
-}
-
-/// Whether the pair of points that ends at place i holds a stage.
-fn holds(stages: &[i32], i: usize, stage: i32) -> bool
-    requires one { 1 ≤ i }
-    requires stages { i < length stages.now }
-    ensures { Decides result (HoldsAt stages.now stage i) }
-{
-    stages[i - 1] <= stage && stage <= stages[i]
-}
+// Whoever publishes has two lists, which make a `Curve` or do not; so the calls here and `Curve::new` take the two.
 
 /// Whether the lists are of equal length and make a lawful curve.
 pub fn makes_curve(stages: &[i32], flows: &[u32]) -> bool
     ensures { Decides result (Makes stages.now flows.now) }
 {
-    let n = stages.len();
-    if n != flows.len() || n < 2 || n > 16 {
+    let count = stages.len();
+    if count != flows.len() || count < 2 || count > 16 {
         return false;
     }
-    for i in 1..n {
-        if !step(stages[i - 1], flows[i - 1], stages[i], flows[i]) {
-            return false;
-        }
-    }
-    true
+    each_step(stages, flows)
+}
+
+/// Whether each point may be followed by the next.
+fn each_step(stages: &[i32], flows: &[u32]) -> bool
+    requires { length stages.now ≡ length flows.now }
+    ensures { Decides result ((k : ℕ) → k + 1 < length stages.now → StepAt stages.now flows.now k) }
+{
+    stages
+        .array_windows::<2>()
+        .zip(flows.array_windows::<2>())
+        .all(|(stages, flows)| Segment::new(stages, flows).is_step())
 }
 
 /// The flow at a stage by the first pair of neighbours that holds it, none where no pair does. On a lawful curve any pair
@@ -121,12 +73,11 @@ pub fn flow(stages: &[i32], flows: &[u32], stage: i32) -> Option<u32>
     ensures first { Found (points stages.now flows.now) stage result }
     ensures lawful { Lawfully (points stages.now flows.now) stage result }
 {
-    for i in 1..stages.len().min(flows.len()) {
-        if holds(stages, i, stage) {
-            return Some(flow_by(stages, flows, i, stage));
-        }
-    }
-    None
+    let stage_pairs = stages.array_windows::<2>();
+    let flow_pairs = flows.array_windows::<2>();
+    stage_pairs
+        .zip(flow_pairs)
+        .find_map(|(stages, flows)| Segment::new(stages, flows).flow(stage))
 }
 
 /// Any neighbouring pair that holds a stage gives the same flow, and a stage has a flow exactly where the curve covers it.

@@ -7,13 +7,9 @@ use std::io::{BufRead, BufReader, BufWriter, Write};
 
 /// What now stands, a line for each name.
 fn write_standing<W: Write>(session: &Session, output: &mut W) -> io::Result<()> {
-    for i in 0..usize::MAX {
-        let Some((name, kind)) = session.cipher(i) else {
-            break;
-        };
+    for (name, kind) in session.ciphers() {
         output.write_all(b"cipher ")?;
         output.write_all(name)?;
-        let kind = kind.name();
         writeln!(output, " {kind}")?;
     }
     Ok(())
@@ -24,6 +20,7 @@ fn main(rt: HostRuntime) -> io::Result<()> {
     let mut output = BufWriter::new(rt.alloc(), rt.stdout())?;
     let mut session = Session::new(rt.alloc());
     let mut line = Vec::new(rt.alloc());
+    // counted, so that the loop ends and an answer has its line's number; the buffer serves every line
     for k in 1..u64::MAX {
         line.clear();
         if input.read_until(b'\n', &mut line)? == 0 {
@@ -33,15 +30,7 @@ fn main(rt: HostRuntime) -> io::Result<()> {
             writeln!(output, "{k}: {answer}")?;
         }
     }
-    let tally = session.tally();
-    let calls = tally.calls();
-    let accepted = tally.accepted;
-    let refused = tally.refused;
-    let unreadable = tally.unreadable;
-    writeln!(
-        output,
-        "account: {calls} calls, {accepted} accepted, {refused} refused; {unreadable} lines unreadable"
-    )?;
+    writeln!(output, "{}", session.tally())?;
     write_standing(&session, &mut output)?;
     output.flush()
 }

@@ -1,14 +1,28 @@
 -- What the reader of digits goes by.
---   worth_of c      what a digit is worth; 16 for a byte that is no digit
---   AllDigits ds    each of ds is a digit
---   SomeOther ds    some place of ds holds no digit
-use Rattle.std.specs.Prelude.{◌≡◌, ℕ, ◌-◌, ◌<◌, cond, List, length, nat_lt, slice_index}
+--   IsDigit c       c is the digit of some number
+--   NoDigit c       c is the digit of no number
+--   NoByte ds       no byte is spelled ds
+--   IsByte ds       some byte is spelled ds
+--   AllBytes ps     each of ps is a byte's two digits
+--   SomeOther ps    some place of ps holds no byte's digits
+use Rattle.std.specs.Prelude.{◌≡◌, ℕ, ◌<◌, List, [], ◌∷◌, length, ◌≢◌}
+use Rattle.std.specs.List.{AllWithin, HoldsAt}
+use Rattle.hex_digits.specs.Digits.{digit_of, spelled}
 
-abbrev pub worth_of : ℕ → ℕ
-worth_of c = cond (nat_lt c 48) 16 (cond (nat_lt c 58) (c - 48) (cond (nat_lt c 65) 16 (cond (nat_lt c 71) (c - 55) 16)))
+abbrev pub IsDigit : ℕ → Type 0
+IsDigit c = (d : ℕ) × (d < 16) × (digit_of d ≡ c)
 
-abbrev pub AllDigits : List ℕ → Type 0
-AllDigits ds = (k : ℕ) → k < length ds → worth_of (slice_index ds k) < 16
+abbrev pub NoDigit : ℕ → Type 0
+NoDigit c = (d : ℕ) → d < 16 → digit_of d ≢ c
 
-abbrev pub SomeOther : List ℕ → Type 0
-SomeOther ds = (k : ℕ) × (k < length ds) × (worth_of (slice_index ds k) ≡ 16)
+abbrev pub NoByte : List ℕ → Type 0
+NoByte ds = (b : ℕ) → b < 256 → spelled (b ∷ []) ≢ ds
+
+abbrev pub IsByte : List ℕ → Type 0
+IsByte ds = (b : ℕ) × (b < 256) × (spelled (b ∷ []) ≡ ds)
+
+abbrev pub AllBytes : List (List ℕ) → Type 0
+AllBytes ps = AllWithin IsByte ps 0 (length ps)
+
+abbrev pub SomeOther : List (List ℕ) → Type 0
+SomeOther ps = (k : ℕ) × (k < length ps) × HoldsAt NoByte ps k

@@ -1,55 +1,84 @@
 //! Bytes in capital hexadecimal digits, two to a byte, the higher digit first.
 //!
-//! Public: `read`, `read_block`, `spell`, `spell_block`.
+//! Public: `read`, which refuses with `Misspelt`, `read_block`, `spell`, `spell_block`.
 #![tactic(auto)]
 
-ghost use Rattle.std.specs.Prelude.{◌≡◌, ◌<◌, length, IfOk, MatchBool, MatchOption};
+// The library `hex` reads small letters too and asks for memory; here only capitals are digits, and bytes go into what is lent.
+
+ghost use Rattle.std.specs.Prelude.{◌≡◌, ◌<◌, [], ◌∷◌, length, IfOk, MatchBool, MatchOption, MatchResult};
+ghost use Rattle.std.specs.String.{string_bytes};
 ghost use Rattle.cipher.specs.Bytes.{Bytes, bytes_of};
 ghost use Rattle.hex_digits.specs.Digits.{digit_of, spelled, Unspelt, NoBlock};
-ghost use Rattle.hex_digits.specs.Worth.{worth_of, AllDigits, SomeOther};
+ghost use Rattle.hex_digits.specs.Worth.{IsDigit, NoDigit, IsByte, NoByte, AllBytes, SomeOther};
 
 use cipher::block::Block;
 use std::alloc::{AllocError, Global};
+use std::array;
 
-/// What a digit is worth; 16 for a byte that is no digit.
-fn worth(byte: u8) -> u8
-    ensures { result ≡ worth_of byte }
+/// The refusal of digits that spell no bytes, or not so many as are wanted.
+#[derive(Clone, Copy, PartialEq, Eq, Debug)]
+pub struct Misspelt;
+
+/// Whether a byte is a digit.
+// asked first: with a worth that is an `Option`, a line of vectors takes a third longer
+#[tactic(auto, using(crate::proofs::Spelling::numeral, crate::proofs::Spelling::letter))]
+fn is_digit(byte: u8) -> bool
+    ensures { MatchBool result (IsDigit byte) (NoDigit byte) }
 {
-    match byte {
-        b'0'..=b'9' => byte - b'0',
-        b'A'..=b'F' => byte - b'A' + 10,
-        _ => 16,
+    matches!(byte, b'0'..=b'9' | b'A'..=b'F')
+}
+
+/// What a digit is worth.
+fn worth(digit: u8) -> u8
+    requires { IsDigit digit }
+    ensures { (result < 16) × (digit_of result ≡ digit) }
+{
+    if digit < b'A' {
+        digit - b'0'
+    } else {
+        digit - b'A' + 10
     }
 }
 
-/// Whether each byte is a digit.
-fn all_digits(text: &[u8]) -> bool
-    ensures { MatchBool result (AllDigits text.now) (SomeOther text.now) }
+/// Whether a pair is the two digits of a byte.
+fn is_byte(pair: &[u8; 2]) -> bool
+    ensures { MatchBool result (IsByte pair.now) (NoByte pair.now) }
 {
-    for byte in text {
-        if worth(*byte) > 15 {
-            return false;
-        }
-    }
-    true
+    is_digit(pair[0]) && is_digit(pair[1])
 }
 
-/// Reads digits into `bytes`, and answers whether they spell just so many bytes; if not, `bytes` is as it was.
-pub fn read(digits: &[u8], bytes: &mut [u8]) -> bool
-    ensures { MatchBool result
-        ((spelled bytes.new ≡ digits.now) × Bytes bytes.new)
-        (Unspelt (length bytes.old) digits.now × (bytes.new ≡ bytes.old)) }
+/// The byte that two digits spell.
+fn byte_of(pair: &[u8; 2]) -> u8
+    requires { IsByte pair.now }
+    ensures { spelled (result ∷ []) ≡ pair.now }
 {
-    if digits.len() / 2 != bytes.len() || digits.len() % 2 != 0 {
-        return false;
+    worth(pair[0]) * 16 + worth(pair[1])
+}
+
+/// Whether each pair of digits spells a byte.
+fn all_bytes(pairs: &[[u8; 2]]) -> bool
+    ensures { MatchBool result (AllBytes pairs.now) (SomeOther pairs.now) }
+{
+    pairs.iter().all(|pair| is_byte(pair))
+}
+
+/// Reads digits into `bytes`; where they do not spell just so many bytes, `bytes` is as it was.
+pub fn read(digits: &[u8], bytes: &mut [u8]) -> Result<(), Misspelt>
+    ensures { MatchResult result
+        (λ _. (spelled bytes.new ≡ digits.now) × Bytes bytes.new)
+        (λ _. Unspelt (length bytes.old) digits.now × (bytes.new ≡ bytes.old)) }
+{
+    let (pairs, []) = digits.as_chunks::<2>() else {
+        return Err(Misspelt);
+    };
+    if pairs.len() != bytes.len() || !all_bytes(pairs) {
+        return Err(Misspelt);
     }
-    if !all_digits(digits) {
-        return false;
+    // by index: of a slice that `iter_mut` lends to a `zip` a proof keeps only the length
+    for (i, pair) in pairs.iter().enumerate() {
+        bytes[i] = byte_of(pair);
     }
-    for i in 0..bytes.len() {
-        bytes[i] = worth(digits[2 * i]) * 16 + worth(digits[2 * i + 1]);
-    }
-    true
+    Ok(())
 }
 
 /// The block that sixteen digits spell, or none where they spell none.
@@ -57,11 +86,8 @@ pub fn read_block(digits: &[u8]) -> Option<Block>
     ensures { MatchOption result (NoBlock digits.now) (λ b. spelled (bytes_of b) ≡ digits.now) }
 {
     let mut bytes = [0; 8];
-    if read(digits, &mut bytes) {
-        Some(Block::from_bytes(bytes))
-    } else {
-        None
-    }
+    read(digits, &mut bytes).ok()?;
+    Some(Block::from(bytes))
 }
 
 /// The digit of a number below 16.
@@ -76,27 +102,32 @@ fn digit(number: u8) -> u8
     }
 }
 
+#[tactic(auto, unfolding(crate::specs::Digits::spelled))]
+/// The two digits of a byte.
+fn digits_of(byte: u8) -> [u8; 2]
+    ensures { result ≡ spelled (byte ∷ []) }
+{
+    [digit(byte / 16), digit(byte % 16)]
+}
+
 /// The sixteen digits of a block.
+// beside `spell`, since it asks for no memory: what answers a line of vectors has no heap
 pub fn spell_block(block: Block) -> [u8; 16]
     ensures { result ≡ spelled (bytes_of block) }
 {
-    let bytes = block.to_bytes();
-    let mut digits = [b'0'; 16];
-    for i in 0..8 {
-        digits[2 * i] = digit(bytes[i] / 16);
-        digits[2 * i + 1] = digit(bytes[i] % 16);
-    }
-    digits
+    let bytes: [u8; 8] = block.into();
+    array::from_fn(|i| digits_of(bytes[i / 2])[i % 2])
 }
 
 /// The digits of bytes.
-pub fn spell(heap: Global, bytes: &[u8]) -> Result<Vec<u8>, AllocError>
-    ensures { IfOk result (λ v. v.items ≡ spelled bytes.now) }
+pub fn spell(heap: Global, bytes: &[u8]) -> Result<String, AllocError>
+    ensures { IfOk result (λ s. string_bytes s ≡ spelled bytes.now) }
 {
-    let mut digits = Vec::new(heap);
+    let mut digits = String::new(heap);
     for byte in bytes {
-        digits.push(digit(*byte / 16))?;
-        digits.push(digit(*byte % 16))?;
+        let [high, low] = digits_of(*byte);
+        digits.push(char::from(high))?;
+        digits.push(char::from(low))?;
     }
     Ok(digits)
 }

@@ -14,7 +14,8 @@ use Rattle.modes.specs.declared.mode.Mode.{Mode}
 use Rattle.modes.specs.declared.mode.Mode.TheVariants.{Ecb, Cbc, Cfb, Ofb}
 use Rattle.modes.specs.declared.mode.Step.{Step}
 use Rattle.modes.specs.Layout.{cut, blocks, bytes}
-use Rattle.modes.specs.Formulas.{xor, forward, backward, outs, after}
+use Rattle.cipher.specs.Blocks.{xor}
+use Rattle.modes.specs.Formulas.{forward, backward, outs, after}
 use Rattle.modes.specs.Texts.{Whole, enciphered, following, OneText}
 
 word_low : (a b c d : ℕ) → a < 256 → b < 256 → c < 256 → d < 256 → word a b c d < 2 ^ 32

@@ -9,7 +9,8 @@ use Rattle.cipher.specs.Bytes.{block_of}
 use Rattle.refusal.specs.declared.Refusal.{Refusal}
 use Rattle.refusal.specs.Refusals.{Answers}
 use Rattle.modes.specs.declared.mode.Mode.TheVariants.{Cbc}
-use Rattle.modes.specs.Formulas.{xor, forward, after}
+use Rattle.cipher.specs.Blocks.{xor}
+use Rattle.modes.specs.Formulas.{forward, after}
 use Rattle.modes.specs.Layout.{cut}
 
 abbrev pub zeros : Block

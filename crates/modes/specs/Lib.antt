@@ -1,6 +1,6 @@
 pub mod Cmac
-pub mod Eights
 pub mod Formulas
 pub mod Layout
 pub mod Names
+pub mod Runs
 pub mod Texts

@@ -3,8 +3,6 @@ ghost use Rattle.std.specs.Prelude.{◌≡◌, ◌<◌, ◌≤◌, length};
 ghost use Rattle.modes.specs.Cmac.{doubled, padded, last_block, tag_of, Tags};
 
 use crate::LONGEST;
-use crate::buffer::read_block;
-use crate::eights::xored;
 use cipher::BlockCipher;
 use cipher::block::Block;
 use refusal::Refusal;
@@ -28,11 +26,10 @@ fn padded_block(rest: &[u8]) -> Block
     requires { length rest.now < 8 }
     ensures { result ≡ padded rest.now }
 {
-    let mut full = [0u8; 8];
-    let n = rest.len();
-    full[0..n].copy_from_slice(rest);
-    full[n] = 0x80;
-    read_block(&full, 0)
+    let mut full = [0; 8];
+    full[..rest.len()].copy_from_slice(rest);
+    full[rest.len()] = 0x80;
+    Block::from(full)
 }
 
 /// The last block, xored with K1 if it is full, else padded and xored with K2, which is K1 doubled.
@@ -40,10 +37,9 @@ fn keyed_last(rest: &[u8], k1: Block) -> Block
     requires { length rest.now ≤ 8 }
     ensures { result ≡ last_block k1 (doubled k1) rest.now }
 {
-    if rest.len() == 8 {
-        xored(read_block(rest, 0), k1)
-    } else {
-        xored(padded_block(rest), twice(k1))
+    match rest.first_chunk::<8>() {
+        Some(bytes) => Block::from(*bytes) ^ k1,
+        None => padded_block(rest) ^ twice(k1),
     }
 }
 
@@ -53,13 +49,13 @@ fn chained<C: BlockCipher>(cipher: &C, text: &[u8]) -> Block
 {
     let zero = Block { left: 0, right: 0 };
     let k1 = twice(cipher.encipher(zero));
+    let (front, last) = text.split_at(text.len().saturating_sub(1) / 8 * 8);
+    let (blocks, _) = front.as_chunks::<8>();
     let mut chain = zero;
-    let mut at = 0;
-    while text.len() - at > 8 {
-        chain = cipher.encipher(xored(read_block(text, at), chain));
-        at += 8;
+    for bytes in blocks {
+        chain = cipher.encipher(Block::from(*bytes) ^ chain);
     }
-    cipher.encipher(xored(keyed_last(&text[at..], k1), chain))
+    cipher.encipher(keyed_last(last, k1) ^ chain)
 }
 
 /// The tag of a text, or 17 where it is too long.

@@ -1,10 +1,11 @@
-//! The modes, and the way through them.
+//! The modes.
 ghost use Rattle.std.specs.Prelude.{◌≡◌};
 ghost use Rattle.refusal.specs.Refusals.{Answers};
 ghost use Rattle.modes.specs.Names.{called, Unnamed};
 
-use cipher::block::{Block, Eight};
+use cipher::block::Block;
 use refusal::Refusal;
+use std::str::FromStr;
 
 /// How blocks are chained: by electronic code book, cipher block chaining, cipher feedback or output feedback.
 #[derive(Clone, Copy, PartialEq, Eq, Debug)]
@@ -15,11 +16,13 @@ pub enum Mode {
     Ofb,
 }
 
-impl Mode {
-    /// The mode of a name, or 18 where no mode has it.
-    pub fn by_name(name: &str) -> Result<Mode, Refusal>
-        ensures { Answers result (λ m. name.now ≡ (called m).0) (λ n. (n ≡ 18) × Unnamed name.now) }
-    {
+/// The mode of a name, or 18 where no mode has it.
+impl FromStr for Mode {
+    type Err = Refusal;
+
+    ghost from_str_gives = { λ name r. Answers r (λ m. name ≡ (called m).0) (λ n. (n ≡ 18) × Unnamed name) };
+
+    fn from_str(name: &str) -> Result<Mode, Refusal> {
         match name {
             "ECB" => Ok(Mode::Ecb),
             "CBC" => Ok(Mode::Cbc),
@@ -28,8 +31,11 @@ impl Mode {
             _ => Err(Refusal::Mode),
         }
     }
+}
 
+impl Mode {
     /// The mode's name.
+    // methods and no `From`: name and code are both said of a mode
     pub fn name(self) -> &'static str
         ensures { result.now ≡ (called self).0 }
     {
@@ -54,23 +60,9 @@ impl Mode {
     }
 }
 
-/// Enciphering or deciphering.
-#[derive(Clone, Copy)]
-pub(crate) enum Way {
-    Forward,
-    Backward,
-}
-
 /// What a block becomes, and what the next one is chained to.
 #[derive(Clone, Copy)]
 pub(crate) struct Step {
     pub(crate) out: Block,
-    pub(crate) chain: Block,
-}
-
-/// What eight blocks become, and what the next one is chained to.
-#[derive(Clone, Copy)]
-pub(crate) struct EightStep {
-    pub(crate) out: Eight,
     pub(crate) chain: Block,
 }

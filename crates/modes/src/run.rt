@@ -1,96 +1,76 @@
-//! A whole text, block after block.
-ghost use Rattle.std.specs.Prelude.{◌≡◌, ◌+◌, ◌%◌, ◌≤◌, length};
-ghost use Rattle.cipher.specs.Bytes.{block_at};
-ghost use Rattle.modes.specs.Formulas.{step_of, outs, after};
-ghost use Rattle.modes.specs.Layout.{with_block, blocks, bytes};
+//! A whole text, block after block, by any step.
+ghost use Rattle.std.specs.Prelude.{◌≡◌, ◌%◌, length, List};
+ghost use Rattle.cipher.specs.declared.block.Block.{Block as B};
+ghost use Rattle.modes.specs.declared.mode.Step.{Step as S};
+ghost use Rattle.modes.specs.Runs.{Ran, Gives, GivesEach, by_pairs};
+
+// That a text is whole blocks stays a `requires`: a type around what is lent would be made and opened again in each function
+// that passes it on.
 
 use crate::buffer::{read_block, read_eight, write_block, write_eight};
-use crate::eights::{at_once, step_eight, xored};
-use crate::mode::{Mode, Step, Way};
-use cipher::BlockCipher;
+use crate::eights::shifted;
+use crate::mode::Step;
 use cipher::block::Block;
 
-/// What one block becomes, and what the next one is chained to.
-fn step<C: BlockCipher>(cipher: &C, way: Way, mode: Mode, chain: Block, block: Block) -> Step
-    ensures { result ≡ step_of way mode (C.BlockCipher.enc cipher.now) (C.BlockCipher.dec cipher.now) chain block }
-{
-    match (way, mode) {
-        (Way::Forward, Mode::Ecb) => Step {
-            out: cipher.encipher(block),
-            chain,
-        },
-        (Way::Backward, Mode::Ecb) => Step {
-            out: cipher.decipher(block),
-            chain,
-        },
-        (Way::Forward, Mode::Cbc) => {
-            let out = cipher.encipher(xored(block, chain));
-            Step { out, chain: out }
-        }
-        (Way::Backward, Mode::Cbc) => Step {
-            out: xored(cipher.decipher(block), chain),
-            chain: block,
-        },
-        (Way::Forward, Mode::Cfb) => {
-            let out = xored(block, cipher.encipher(chain));
-            Step { out, chain: out }
-        }
-        (Way::Backward, Mode::Cfb) => Step {
-            out: xored(block, cipher.encipher(chain)),
-            chain: block,
-        },
-        (_, Mode::Ofb) => {
-            let next = cipher.encipher(chain);
-            Step {
-                out: xored(block, next),
-                chain: next,
-            }
-        }
-    }
-}
-
-/// One block of the buffer, in place; answers what the next one is chained to.
-fn turn<C: BlockCipher>(
-    cipher: &C,
-    way: Way,
-    mode: Mode,
-    chain: Block,
-    buffer: &mut [u8],
-    at: usize,
-) -> Block
-    requires { at + 8 ≤ length buffer.old }
-    ensures written { buffer.new ≡ with_block buffer.old at (step_of way mode (C.BlockCipher.enc cipher.now) (C.BlockCipher.dec cipher.now) chain (block_at buffer.old at)).out }
-    ensures next { result ≡ (step_of way mode (C.BlockCipher.enc cipher.now) (C.BlockCipher.dec cipher.now) chain (block_at buffer.old at)).chain }
-{
-    let done = step(cipher, way, mode, chain, read_block(buffer, at));
-    write_block(buffer, at, done.out);
-    done.chain
-}
-
-/// The whole text in place; answers the block with which a following piece starts.
-pub(crate) fn run<C: BlockCipher>(
-    cipher: &C,
-    way: Way,
-    mode: Mode,
+/// Each block of the text in place, by a step that waits for the one before; answers what a following block is chained to.
+pub(crate) fn chained<F: Fn(Block, Block) -> Step>(
     start: Block,
     buffer: &mut [u8],
+    step: F,
 ) -> Block
-    requires { length buffer.old % 8 ≡ 0 }
-    ensures written { buffer.new ≡ bytes (outs (step_of way mode (C.BlockCipher.enc cipher.now) (C.BlockCipher.dec cipher.now)) start (blocks buffer.old)) }
-    ensures next { result ≡ after (step_of way mode (C.BlockCipher.enc cipher.now) (C.BlockCipher.dec cipher.now)) start (blocks buffer.old) }
+    requires calls { F.IsAlwaysCallable step }
+    requires whole { length buffer.old % 8 ≡ 0 }
+    ensures { (f : B → B → S) → Gives (F.post step) f → Ran f start buffer.old result buffer.new }
 {
     let mut chain = start;
-    let mut at = 0;
-    let together = at_once(way, mode);
-    'eights: while together && buffer.len() - at >= 64 {
-        let done = step_eight(cipher, way, mode, chain, read_eight(buffer, at));
-        write_eight(buffer, at, done.out);
+    // by place: of a text that `chunks_exact_mut` lends a proof keeps only the length
+    for at in (0..buffer.len()).step_by(8) {
+        let done = step(chain, read_block(buffer, at));
+        write_block(buffer, at, done.out);
         chain = done.chain;
-        at += 64;
-    }
-    'ones: while at < buffer.len() {
-        chain = turn(cipher, way, mode, chain, buffer, at);
-        at += 8;
     }
     chain
+}
+
+/// Eight blocks at a time, each with the one before it, in a text of whole eights; answers the last block as it was.
+fn by_eights<M: Fn([Block; 8], [Block; 8]) -> [Block; 8]>(
+    start: Block,
+    buffer: &mut [u8],
+    many: M,
+) -> Block
+    requires calls { M.IsAlwaysCallable many }
+    requires whole { length buffer.old % 64 ≡ 0 }
+    ensures { (f : B → B → B) → GivesEach (M.post many) f → Ran (by_pairs f) start buffer.old result buffer.new }
+{
+    let mut chain = start;
+    // by place, as above; a loop of its own, since eight are read before one is written
+    for at in (0..buffer.len()).step_by(64) {
+        let blocks = read_eight(buffer, at);
+        write_eight(buffer, at, many(shifted(chain, blocks), blocks));
+        chain = blocks[7];
+    }
+    chain
+}
+
+/// Each block of the text in place, where none waits for what the one before becomes: by the block before it as it was,
+/// and by itself. Eights are done by `many`, and what is left block by block by `one`. Answers the last block as it was.
+pub(crate) fn side_by_side<
+    M: Fn([Block; 8], [Block; 8]) -> [Block; 8],
+    F: Fn(Block, Block) -> Block,
+>(start: Block, buffer: &mut [u8], many: M, one: F) -> Block
+    requires many { M.IsAlwaysCallable many }
+    requires one { F.IsAlwaysCallable one }
+    requires whole { length buffer.old % 8 ≡ 0 }
+    ensures { (f : B → B → B) → GivesEach (M.post many) f → Gives (F.post one) f → Ran (by_pairs f) start buffer.old result buffer.new }
+{
+    let (front, rest) = buffer.split_at_mut(buffer.len() / 64 * 64);
+    let chain = by_eights(start, front, many);
+    chained(
+        chain,
+        rest,
+        |before, block| Step {
+            out: one(before, block),
+            chain: block,
+        },
+    )
 }

@@ -44,6 +44,7 @@ pub enum Layer {
 
 impl Refusal {
     /// The refusal's number: no other refusal has it.
+    // a method and no `From`: number, layer and reason are all said of a refusal, and a name tells which is meant
     pub fn number(self) -> u8
         ensures value { result ≡ number_of self }
         ensures within { (1 ≤ result) × (result ≤ 18) }
@@ -75,10 +76,14 @@ impl Refusal {
     pub fn layer(self) -> Layer
         ensures { result ≡ layer_of (number_of self) }
     {
-        match self.number() {
-            16..=18 => Layer::Cipher,
-            13 => Layer::Bundle,
-            8..=12 => Layer::Parcel,
+        match self {
+            Refusal::KeyLength | Refusal::TextLength | Refusal::Mode => Layer::Cipher,
+            Refusal::NoLawfulBundle => Layer::Bundle,
+            Refusal::ParcelLength
+            | Refusal::Header
+            | Refusal::Tag
+            | Refusal::TooShort
+            | Refusal::Padding => Layer::Parcel,
             _ => Layer::Register,
         }
     }

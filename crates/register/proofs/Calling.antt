@@ -4,6 +4,9 @@ use mathlib.Core.Path.{fun_ext}
 use native.Mathlib.Decide.{ℕ_discrete}
 use Rattle.std.proofs.lemmas.List.{get_or-set_same, get_or-set_other}
 use Rattle.std.proofs.lemmas.Bool.{eq-eqb, ne_eqb}
+use Rattle.std.specs.Prelude.{IsErrAnd}
+use Rattle.std.specs.Option.{ok_or}
+use Rattle.std.proofs.lemmas.Result.{err_from_is_err_and}
 use Rattle.refusal.specs.declared.Refusal.{Refusal}
 use Rattle.cipher.specs.declared.block.Block.{Block}
 use Rattle.curve.specs.Curves.{Curve, points, Makes}
@@ -26,6 +29,15 @@ use Rattle.register.proofs.Uses.{room}
 
 pub carries : (s : State) (q : Call) (a : Answer) (lent : List ℕ) (t : State) → ((E1 E2 : Block → Block) → Does E1 E2 s q a lent t) → Carries s q a lent t
 carries s q a lent t does E1 D1 E2 D2 k l = every_call E1 D1 E2 D2 k l s q a lent t (does E1 E2)
+
+-- a refusal that is passed on is the same
+pub err_is : {T E : Type 0} (r : Result T E) (e : E) → IsErrAnd r (λ y. y ≡ e) → r ≡ Err e
+err_is r e h = let p = err_from_is_err_and r h in p.1 ∙ ap Err p.2
+
+-- what `ok_or` refuses was not there
+pub refused_by : {T E : Type 0} (o : Option T) (r : Result T E) (e y : E) → r ≡ ok_or o e → r ≡ Err y → (o ≡ None) × (y ≡ e)
+refused_by None r e y a b = (refl, cc (a, b))
+refused_by (Some x) r e y a b = absurd (let z : ◌≡◌ {A = ℕ} 0 1 = cc (a, b) in omega arith)
 
 -- ---- what stands
 

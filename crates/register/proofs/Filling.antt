@@ -1,7 +1,9 @@
 -- Converting stage by stage.
-use Rattle.std.proofs.Common.{◌≡◌, ℕ, ◌-◌, List, length, get_or, ℤ, pos, ◌≤ℤ◌, sym, ap, ◌∙◌, subst, arith}
-use Rattle.curve.specs.Answers.{FirstFlow}
-use Rattle.curve.specs.Curves.{Curve, point, points, Makes, FlowAt}
+use Rattle.std.proofs.Common.{◌≡◌, ℕ, ◌-◌, List, length, get_or, ℤ, pos, ◌≤ℤ◌, Some, None, Option, refl, sym, ap, ◌∙◌, subst, arith}
+use Rattle.std.specs.Prelude.{IsSome}
+use Rattle.curve.specs.Answers.{FlowOf}
+use Rattle.curve.specs.Curves.{Curve, point, points, LawfulCurve, Makes, FlowAt, Covered}
+use Rattle.curve.proofs.Neighbours.{flow_there}
 use Rattle.curve.proofs.Points.{point_at, enough, makes_size}
 use Rattle.rules.specs.Calls.{AllCovered}
 use Rattle.register.specs.Filling.{Within}
@@ -24,5 +26,13 @@ module _ (ss : List ℤ) (qs : List ℕ) (m : Makes ss qs) where
   covered_within st c k h =
       (subst (λ x. x ≤ℤ get_or st k (pos 0)) first_stage (c k h).0, subst (λ x. get_or st k (pos 0) ≤ℤ x) last_stage (c k h).1)
 
-pub first_is_flow : (c : Curve) (s : ℤ) (q : ℕ) → FirstFlow c s q → FlowAt c s q
-first_is_flow c s q f = (f.place, f.holds, f.value)
+-- of a stage that a curve covers there is a flow, and what is answered is it
+pub some_flow : (c : Curve) (s : ℤ) (r : Option ℕ) → FlowOf c s r → Covered c s → IsSome r
+some_flow c s None f h = absurd (f h)
+some_flow c s (Some q) f h = refl
+
+pub answered_flow : (c : Curve) → LawfulCurve c → (s : ℤ) (r : Option ℕ) (q : ℕ) → FlowOf c s r → r ≡ Some q → FlowAt c s q
+answered_flow c L s r q f e =
+    let g = subst (FlowOf c s) e f in
+    let (p, (k, b, v)) = flow_there c L s g.0 in
+    (k, b, g.1 k b)

@@ -1,27 +1,21 @@
 -- Lists of one value.
-use Rattle.std.proofs.Common.{◌≡◌, ℕ, zero, suc, ◌<◌, ◌≤◌, true, false, get_or, replicate, None, refl, zero-le, arith}
+use Rattle.std.proofs.Common.{◌≡◌, ℕ, zero, suc, true, false, get_or, replicate, None, refl}
 use Rattle.register.specs.declared.place.Place.{Place}
-use Rattle.register.specs.Places.{held, once, blank, unused, Level}
+use Rattle.register.specs.declared.place.PlaceState.TheVariants.{Free}
+use Rattle.register.specs.Places.{bears, held, once}
 
 pub none-marked : (k n : ℕ) → get_or (replicate k false) n false ≡ false
 none-marked zero n = refl
 none-marked (suc k) zero = refl
 none-marked (suc k) (suc n) = none-marked k n
 
-pub none_long : (k : ℕ) (p : Place) → p.count ≤ 16 → (i : ℕ) → i < 32 → (get_or (replicate k p) i blank).count ≤ 16
-none_long zero p e i h = zero-le
-none_long (suc k) p e zero h = e
-none_long (suc k) p e (suc i) h = none_long k p e i (omega arith)
+free_bears : (p : Place) (n : ℕ) → p.state ≡ Free → bears p.state n ≡ false
+free_bears p n f = rw f
 
-pub none_level : (k : ℕ) (p : Place) → Level p → (i : ℕ) → i < 32 → Level (get_or (replicate k p) i blank)
-none_level zero p e i h = refl
-none_level (suc k) p e zero h = e
-none_level (suc k) p e (suc i) h = none_level k p e i (omega arith)
+pub none-held : (k n : ℕ) (p : Place) → p.state ≡ Free → held (replicate k p) n ≡ None
+none-held zero n p f = refl
+none-held (suc k) n p f = let b = free_bears p n f in rw b (none-held k n p f)
 
-pub none-held : (k n : ℕ) → held (replicate k unused) n ≡ None
-none-held zero n = refl
-none-held (suc k) n = none-held k n
-
-pub none-once : (k n : ℕ) → once (replicate k unused) n ≡ true
-none-once zero n = refl
-none-once (suc k) n = none-once k n
+pub none-once : (k n : ℕ) (p : Place) → p.state ≡ Free → once (replicate k p) n ≡ true
+none-once zero n p f = refl
+none-once (suc k) n p f = let b = free_bears p n f in rw b (none-once k n p f)

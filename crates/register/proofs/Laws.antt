@@ -7,7 +7,7 @@ use Rattle.curve.specs.Curves.{Curve}
 use Rattle.register.specs.declared.place.Place.{Place}
 use Rattle.register.specs.declared.place.PlaceState.{PlaceState}
 use Rattle.register.specs.declared.place.PlaceState.TheVariants.{Free, InForce}
-use Rattle.register.specs.Places.{held, bears, is_free_place, curve_of, blank, once, Level}
+use Rattle.register.specs.Places.{held, bears, is_free_place, curve_of, blank, once}
 use Rattle.register.specs.Soundness.{Sound}
 use Rattle.register.proofs.Changes.{held-some, held_here, held_other, held_gone, once_here, once_other, once_tail, once_rest}
 
@@ -23,10 +23,6 @@ bears_other s n m e h = rw e (ne_eqb n m (λ q. h (sym q)))
 
 bears_free : (s : PlaceState) (m : ℕ) → s ≡ Free → bears s m ≡ false
 bears_free s m e = rw e
-
-pub few_set : (ps : List Place) (i : ℕ) (p : Place) → i < length ps → ((j : ℕ) → j < 32 → (get_or ps j blank).count ≤ 16) → p.count ≤ 16 → (j : ℕ) → j < 32 → (get_or (set ps i p) j blank).count ≤ 16
-few_set ps i p h f k j l =
-    ⊎_elim (λ e. rw e (rw (get_or-set_same ps i p blank h) k)) (λ ne. rw (get_or-set_other ps i j p blank ne) (f j l)) (cases_eq j i)
 
 module _ (ps : List Place) (i n : ℕ) (p : Place) (free : is_free_place (get_or ps i blank).state ≡ true) (none : held ps n ≡ None) (own : p.state ≡ InForce n) where
   pub placed_here : i < length ps → held (set ps i p) n ≡ Some (curve_of p)
@@ -97,28 +93,6 @@ module _ (ps : List Place) (i n : ℕ) (p : Place) (in_use : bears (get_or ps i 
 
   pub freed_stays : (j : ℕ) → bears (get_or ps j blank).state n ≡ false → get_or (set ps i p) j blank ≡ get_or ps j blank
   freed_stays j b = get_or-set_other ps i j p blank (λ e. both_ways _ b (subst (λ k. bears (get_or ps k blank).state n ≡ true) (sym e) in_use))
-
-level_same : (p q : Place) → p.count ≡ q.count → p.stages ≡ q.stages → p.flows ≡ q.flows → Level q → Level p
-level_same p q a b d h = rw (a, b, d) h
-
-pub levels_set : (ps : List Place) (i : ℕ) (p : Place) → p.count ≡ (get_or ps i blank).count → p.stages ≡ (get_or ps i blank).stages → p.flows ≡ (get_or ps i blank).flows → (j : ℕ) → Level (get_or ps j blank) → Level (get_or (set ps i p) j blank)
-levels_set [] i p a b d j h = h
-levels_set (x ∷ xs) zero p a b d zero h = level_same p x a b d h
-levels_set (x ∷ xs) zero p a b d (suc j) h = h
-levels_set (x ∷ xs) (suc i) p a b d zero h = h
-levels_set (x ∷ xs) (suc i) p a b d (suc j) h = levels_set xs i p a b d j h
-
--- one place is level, and the others were
-pub level_set : (ps : List Place) (i : ℕ) (p : Place) → i < length ps → ((j : ℕ) → j < 32 → Level (get_or ps j blank)) → Level p → (j : ℕ) → j < 32 → Level (get_or (set ps i p) j blank)
-level_set ps i p h f k j l =
-    ⊎_elim (λ e. rw e (rw (get_or-set_same ps i p blank h) k)) (λ ne. rw (get_or-set_other ps i j p blank ne) (f j l)) (cases_eq j i)
-
-pub counts_set : (ps : List Place) (i : ℕ) (p : Place) → p.count ≡ (get_or ps i blank).count → (j : ℕ) → (get_or (set ps i p) j blank).count ≡ (get_or ps j blank).count
-counts_set [] i p e j = refl
-counts_set (x ∷ xs) zero p e zero = e
-counts_set (x ∷ xs) zero p e (suc j) = refl
-counts_set (x ∷ xs) (suc i) p e zero = refl
-counts_set (x ∷ xs) (suc i) p e (suc j) = counts_set xs i p e j
 
 -- the law after a number that is not in force gets a mark
 pub marked_law : (ps : List Place) (marks : List Bool) (n : ℕ) → held ps n ≡ None → ((m : ℕ) (c : Curve) → held ps m ≡ Some c → (m ≡ n → ⊥) → ∥ Sound marks m c ∥₁) → (m : ℕ) (c : Curve) → held ps m ≡ Some c → ∥ Sound (set marks n true) m c ∥₁

@@ -1,6 +1,5 @@
 pub mod Calling
 pub mod Changes
-pub mod Copies
 pub mod Filling
 pub mod Fresh
 pub mod Held

@@ -1,5 +1,5 @@
 -- Marks and curves, and what stands.
-use Rattle.std.proofs.Common.{◌≡◌, ℕ, ◌<◌, Bool, true, false, get_or, Some, None, Option, sym, refl, ap, ◌∙◌, ap₂, ⊎_elim, Decides, arith}
+use Rattle.std.proofs.Common.{◌≡◌, ℕ, ◌+◌, ◌<◌, ◌≤◌, min, Bool, true, false, get_or, Some, None, Option, sym, refl, ap, ◌∙◌, ap₂, MatchOption, ⊎_elim, Decides, arith}
 use Rattle.std.proofs.lemmas.List.{get_or_past}
 use Rattle.std.proofs.lemmas.Bool.{both_ways, cases_lt}
 use Rattle.curve.specs.Curves.{Curve}
@@ -38,6 +38,14 @@ none_in_force false c h = let z : ◌≡◌ {A = ℕ} 0 1 = cc h in omega arith
 pub not_in_force : (r : Core) (n : ℕ) → held r.table.places n ≡ None → InForce (meaning r) n → ⊥
 not_in_force r n h (c, e) = none_in_force (get_or r.withdrawn n false) c (sym (ap (standing_of (get_or r.withdrawn n false)) h) ∙ e)
 
+-- a number that is neither marked nor in force has no standing
+pub no_standing : (r : Core) (n : ℕ) → get_or r.withdrawn n false ≡ false → (InForce (meaning r) n → ⊥) → (meaning r).standing n ≡ None
+no_standing r n m f = go (held r.table.places n) refl
+  where
+    go : (o : Option Curve) → held r.table.places n ≡ o → (meaning r).standing n ≡ None
+    go None e = ap₂ standing_of m e
+    go (Some c) e = absurd (f (c, ap₂ standing_of m e))
+
 pub in_force_of : (r : Core) (n : ℕ) → (Nowhere r.table.places n → ⊥) → InForce (meaning r) n
 in_force_of r n f = go (held r.table.places n) refl
   where
@@ -58,3 +66,10 @@ next_of P {r = None} h tells past =
     λ n a p. ⊎_elim (λ l. both_ways false refl ((tells n false (h.is n a (omega arith))).1 p)) (λ g. past n (omega arith) p) (cases_lt n 1025)
 next_of P {r = Some m} h tells past =
     (h.is.0, (tells m true h.is.1).0 refl, λ n a l p. both_ways false refl ((tells n false (h.is.2 n a l)).1 p))
+
+-- a search from the number after `after` on finds the lowest, up to 1024
+pub lowest_of : (T : ℕ → Bool → Type 0) (after start : ℕ) → start ≡ min (after + 1) 65535 → (r : Option ℕ)
+    → MatchOption r ((k : ℕ) → start ≤ k → k < 1025 → T k false) (λ i. (start ≤ i) × (i < 1025) × T i true × ((k : ℕ) → start ≤ k → k < i → T k false))
+    → Lowest T after r
+lowest_of T after start e None h = record { is = λ n a l. h n (omega arith) (omega arith) }
+lowest_of T after start e (Some m) h = record { is = (omega arith, h.2, λ n a l. h.3 n (omega arith) l) }

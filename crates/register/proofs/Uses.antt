@@ -1,5 +1,5 @@
 -- The curves in force are as many as the places that are not free; and a register's meaning is lawful.
-use Rattle.std.proofs.Common.{◌≡◌, ℕ, zero, suc, ◌+◌, ◌<◌, ◌≤◌, Bool, true, false, eqb, ◌⊎◌, List, [], ◌∷◌, length, get_or, take, is_some, Some, None, Option, refl, ap, ◌∙◌, subst, inl, inr, ⊎_elim, arith}
+use Rattle.std.proofs.Common.{◌≡◌, ℕ, zero, suc, ◌+◌, ◌<◌, ◌≤◌, Bool, true, false, eqb, ◌⊎◌, List, [], ◌∷◌, length, get_or, take, is_some, Some, None, Option, sym, refl, ap, ◌∙◌, subst, inl, inr, ⊎_elim, arith}
 use mathlib.Core.Logic.{∥∥₁_elim}
 use mathlib.Core.HLevel.{⊥_prop}
 use native.Mathlib.Decide.{dec_le}
@@ -86,8 +86,8 @@ pub sound_at : (r : Core) (n : ℕ) (c : Curve) → held r.table.places n ≡ So
 sound_at r n c e = sound_of r.withdrawn n c (r.lawful n c e)
 
 -- the arrays of a place in force make a lawful curve
-pub makes_at : (r : Core) (n i : ℕ) → i < 32 → bears (get_or r.table.places i blank).state n ≡ true → Makes (take (get_or r.table.places i blank).count (get_or r.table.places i blank).stages) (take (get_or r.table.places i blank).count (get_or r.table.places i blank).flows)
-makes_at r n i l b = (r.level i l, (sound_at r n _ (held_at r.table.places i n (r.apart n) b)).lawful)
+pub makes_at : (r : Core) (n i : ℕ) → bears (get_or r.table.places i blank).state n ≡ true → Makes (take (get_or r.table.places i blank).count (get_or r.table.places i blank).stages) (take (get_or r.table.places i blank).count (get_or r.table.places i blank).flows)
+makes_at r n i b = (let p = get_or r.table.places i blank in p.stages_enough ∙ sym p.flows_enough, (sound_at r n _ (held_at r.table.places i n (r.apart n) b)).lawful)
 
 some_curve : (r : Core) (n : ℕ) (o : Option Curve) → held r.table.places n ≡ o → is_some o ≡ true → Number n
 some_curve r n None e s = absurd (both_ways false refl s)

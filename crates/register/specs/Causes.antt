@@ -2,13 +2,14 @@
 --   Unmarked r n                     n is a number that a curve can have, and is not marked
 --   Stopped s n a                    a refuses a number that no curve can have, or that is withdrawn
 --   Publishable r n ss qs i          nothing speaks against the publish, and place i is free
---   Convertible r n wanted room i    nothing speaks against so many stages and so long a list, and place i is in force with the number
+--   Convertible r n wanted room c    nothing speaks against so many stages and so long a list, and c is in force with the number
 use Rattle.std.specs.Prelude.{◌≡◌, ℕ, ◌<◌, ◌≤◌, true, false, List, get_or, ℤ, Some, slice_index_or}
-use Rattle.curve.specs.Curves.{Makes}
-use Rattle.rules.specs.Registers.{Number, State, withdrawn}
+use Rattle.curve.specs.Curves.{Curve, Makes}
+use Rattle.rules.specs.Registers.{Number, State, in_force, withdrawn}
 use Rattle.rules.specs.Calls.{Answer, refused}
 use Rattle.register.specs.declared.register.Core.{Core}
-use Rattle.register.specs.Places.{bears, is_free_place, Nowhere, blank}
+use Rattle.register.specs.Meaning.{meaning}
+use Rattle.register.specs.Places.{is_free_place, Nowhere, blank}
 
 abbrev pub Unmarked : Core → ℕ → Type 0
 Unmarked r n = Number n × (slice_index_or r.withdrawn n false ≡ false)
@@ -20,5 +21,5 @@ pub data Stopped (s : State) (n : ℕ) (a : Answer) : Type 0 where
 abbrev pub Publishable : Core → ℕ → List ℤ → List ℕ → ℕ → Type 0
 Publishable r n ss qs i = Unmarked r n × Makes ss qs × Nowhere r.table.places n × (i < 32) × (is_free_place (get_or r.table.places i blank).state ≡ true)
 
-abbrev pub Convertible : Core → ℕ → ℕ → ℕ → ℕ → Type 0
-Convertible r n wanted room i = Unmarked r n × (i < 32) × (bears (get_or r.table.places i blank).state n ≡ true) × (wanted ≤ room)
+abbrev pub Convertible : Core → ℕ → ℕ → ℕ → Curve → Type 0
+Convertible r n wanted room c = Unmarked r n × ((meaning r).standing n ≡ Some (in_force c)) × (wanted ≤ room)

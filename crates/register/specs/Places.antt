@@ -2,12 +2,11 @@
 --   bears s n        a place of the state s is in force with the number n
 --   is_free_place s  a place of the state s is free
 --   curve_of p       the curve in the arrays of a place
---   Level p          it has as many stages as flows
 --   held ps n        the curve that is in force with the number n
 --   Nowhere ps n     no place is in force with the number n
 --   NoneFree ps      no place is free
 --   once ps n        at most one place is in force with the number n
-use Rattle.std.specs.Prelude.{◌≡◌, ℕ, ◌<◌, Bool, true, false, cond, not, List, [], ◌∷◌, length, take, replicate, pos, is_some, Some, None, Option, ◌==◌, slice_index_or}
+use Rattle.std.specs.Prelude.{◌≡◌, ℕ, ◌<◌, Bool, true, false, cond, not, List, [], ◌∷◌, take, is_some, Some, None, Option, ◌==◌, slice_index_or, refl}
 use Rattle.curve.specs.Curves.{Curve, points}
 use Rattle.register.specs.declared.place.Place.{Place}
 use Rattle.register.specs.declared.place.PlaceState.{PlaceState}
@@ -24,20 +23,13 @@ is_free_place (InForce m) = false
 abbrev pub curve_of : Place → Curve
 curve_of p = points (take p.count p.stages) (take p.count p.flows)
 
-abbrev pub Level : Place → Type 0
-Level p = length (take p.count p.stages) ≡ length (take p.count p.flows)
-
 abbrev pub held : List Place → ℕ → Option Curve
 held [] n = None
 held (p ∷ ps) n = cond (bears p.state n) (Some (curve_of p)) (held ps n)
 
 -- past the last place
 abbrev pub blank : Place
-blank = record { state = Free; count = 0; stages = []; flows = [] }
-
--- a place as it is at first
-abbrev pub unused : Place
-unused = record { state = Free; count = 0; stages = replicate 16 (pos 0); flows = replicate 16 0 }
+blank = record { state = Free; count = 0; stages = []; flows = []; stages_enough = refl; flows_enough = refl }
 
 abbrev pub once : List Place → ℕ → Bool
 once [] n = true

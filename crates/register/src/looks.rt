@@ -1,12 +1,13 @@
 //! Looking things up in a register. Lists go by rising number: each number leads to the next.
-ghost use Rattle.std.specs.Prelude.{◌≡◌, ℕ, ◌<◌, ◌≤◌, Some, Decides, IfSome, MatchOption};
-ghost use Rattle.curve.specs.Curves.{points, Makes};
+ghost use Rattle.std.specs.Prelude.{◌≡◌, ℕ, ◌<◌, ◌≤◌, Some, Decides, MatchOption};
+ghost use Rattle.curve.specs.Curves.{points};
 ghost use Rattle.rules.specs.Registers.{in_force};
 ghost use Rattle.register.specs.Looking.{InForce, Withdrawn, Next, Lowest};
 ghost use Rattle.register.specs.Meaning.{meaning};
 
 use crate::LAST;
 use crate::register::Core;
+use curve::Curve;
 
 impl Core {
     /// The station number.
@@ -27,10 +28,10 @@ impl Core {
     pub fn is_withdrawn(&self, number: u16) -> bool
         ensures { Decides result (Withdrawn (meaning self.now) number) }
     {
-        if number > LAST {
-            return false;
-        }
-        self.withdrawn[number as usize]
+        self.withdrawn
+            .get(usize::from(number))
+            .copied()
+            .unwrap_or(false)
     }
 
     /// Whether a curve is in force with a number.
@@ -40,10 +41,9 @@ impl Core {
         self.table.has(number)
     }
 
-    /// The stages and the flows of the curve in force with a number, if there is one.
-    pub fn points(&self, number: u16) -> Option<(&[i32], &[u32])>
-        ensures curve { MatchOption result (InForce (meaning self.now) number → ⊥) (λ x. (meaning self.now).standing number ≡ Some (in_force (points x.0.now x.1.now))) }
-        ensures lawful { IfSome result (λ x. Makes x.0.now x.1.now) }
+    /// The curve in force with a number, if there is one.
+    pub fn points(&self, number: u16) -> Option<Curve<'_>>
+        ensures { MatchOption result (InForce (meaning self.now) number → ⊥) (λ c. (meaning self.now).standing number ≡ Some (in_force (points c.stages.now c.flows.now))) }
     {
         let i = self.table.find(number)?;
         Some(self.table.places[i].curve())
@@ -69,10 +69,5 @@ fn lowest_above<F: Fn(u16) -> bool>(after: u16, test: F) -> Option<u16>
     requires { F.IsAlwaysCallable test }
     ensures { Lowest (F.post test) after result }
 {
-    for n in 1..=LAST {
-        if n > after && test(n) {
-            return Some(n);
-        }
-    }
-    None
+    (after.saturating_add(1)..LAST + 1).find(|n| test(*n))
 }

@@ -14,7 +14,7 @@ use refusal::Refusal;
 pub(crate) fn known(number: u16) -> Result<(), Refusal>
     ensures { Answers result (λ _. Number number) (λ n. (n ≡ 1) × (Number number → ⊥)) }
 {
-    if number < 1 || number > LAST {
+    if !(1..=LAST).contains(&number) {
         return Err(Refusal::NumberOutOfRange);
     }
     Ok(())

@@ -1,68 +1,58 @@
 //! A place of the table: free, or in force with its number, beside the arrays of its curve.
 ghost use Rattle.std.specs.Prelude.{◌≡◌, ◌≤◌, length, take};
+ghost use Rattle.curve.specs.Curves.{Makes};
 ghost use Rattle.register.specs.declared.place.PlaceState.TheVariants.{InForce};
-ghost use Rattle.register.specs.Places.{bears, is_free_place};
+
+use curve::Curve;
 
 /// What a place is in use for.
-#[derive(Clone, Copy)]
+// by rule a place holds a state enum beside its arrays, free or in force with a number, and no Option
+#[derive(Clone, Copy, PartialEq, Eq)]
 pub enum PlaceState {
     Free,
     InForce(u16),
 }
 
-impl PlaceState {
-    /// Whether a place of this state is in force with the number.
-    pub(crate) fn bears(self, number: u16) -> bool
-        ensures { result ≡ bears self number }
-    {
-        match self {
-            PlaceState::Free => false,
-            PlaceState::InForce(n) => n == number,
-        }
-    }
-
-    pub(crate) fn is_free(self) -> bool
-        ensures { result ≡ is_free_place self }
-    {
-        match self {
-            PlaceState::Free => true,
-            PlaceState::InForce(_) => false,
-        }
-    }
-}
-
 /// A place: its state, and the first `count` stages and flows are its curve.
+// a device has no heap and fixed memory, so that a curve lies in arrays with its length beside them
 #[derive(Clone, Copy)]
 pub struct Place {
     pub state: PlaceState,
     pub count: usize,
     pub stages: [i32; 16],
     pub flows: [u32; 16],
+    pub ghost stages_enough: { length (take count stages) ≡ count },
+    pub ghost flows_enough: { length (take count flows) ≡ count },
 }
 
 impl Place {
-    /// The stages and the flows of the curve here.
-    pub(crate) fn curve(&self) -> (&[i32], &[u32])
-        requires { self.now.count ≤ 16 }
-        ensures { (result.0.now ≡ take self.now.count self.now.stages) × (result.1.now ≡ take self.now.count self.now.flows) }
+    /// The curve here, where the stages and the flows make one.
+    pub(crate) fn curve(&self) -> Curve<'_>
+        requires { Makes (take self.now.count self.now.stages) (take self.now.count self.now.flows) }
+        ensures { (result.stages.now ≡ take self.now.count self.now.stages) × (result.flows.now ≡ take self.now.count self.now.flows) }
     {
-        (&self.stages[..self.count], &self.flows[..self.count])
+        Curve {
+            stages: &self.stages[..self.count],
+            flows: &self.flows[..self.count],
+        }
     }
 
-    /// Puts a curve in force here.
-    pub(crate) fn hold(&mut self, number: u16, stages: &[i32], flows: &[u32])
-        requires same { length stages.now ≡ length flows.now }
-        requires few { length stages.now ≤ 16 }
-        ensures state { self.new.state ≡ InForce number }
-        ensures count { self.new.count ≡ length stages.now }
-        ensures stages { take self.new.count self.new.stages ≡ stages.now }
-        ensures flows { take self.new.count self.new.flows ≡ flows.now }
+    /// A place that is in force with a number and a curve.
+    pub(crate) fn of(number: u16, curve: Curve<'_>) -> Place
+        ensures state { result.state ≡ InForce number }
+        ensures stages { take result.count result.stages ≡ curve.entry.stages.now }
+        ensures flows { take result.count result.flows ≡ curve.entry.flows.now }
     {
-        self.state = PlaceState::InForce(number);
-        self.count = stages.len();
-        for i in 0..stages.len() {
-            self.stages[i] = stages[i];
-            self.flows[i] = flows[i];
+        let count = curve.stages.len();
+        let mut stages = [0; 16];
+        let mut flows = [0; 16];
+        stages[..count].copy_from_slice(curve.stages);
+        flows[..count].copy_from_slice(curve.flows);
+        Place {
+            state: PlaceState::InForce(number),
+            count,
+            stages,
+            flows,
         }
     }
 }

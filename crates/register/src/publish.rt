@@ -7,24 +7,26 @@ ghost use Rattle.register.specs.Causes.{Publishable};
 ghost use Rattle.register.specs.Meaning.{meaning, answer_of, Occupied, IfAccepted, IfRefused, Carries};
 
 use crate::register::Core;
+use curve::Curve;
 use refusal::Refusal;
 
 impl Core {
-    /// The free place that a publish takes, or why the rule refuses it.
-    fn weigh(&self, number: u16, stages: &[i32], flows: &[u32]) -> Result<usize, Refusal>
-        ensures { MatchResult result (λ i. Publishable self.now number stages.now flows.now i) (λ e. rule.Publish number stages.now flows.now (meaning self.now) (rule.refused (number_of e)) (meaning self.now)) }
+    /// The free place that a publish takes and the curve that it puts there, or why the rule refuses it.
+    fn weigh<'a>(
+        &self,
+        number: u16,
+        stages: &'a [i32],
+        flows: &'a [u32],
+    ) -> Result<(usize, Curve<'a>), Refusal>
+        ensures { MatchResult result (λ x. Publishable self.now number stages.now flows.now x.0 × (x.1.stages.now ≡ stages.now) × (x.1.flows.now ≡ flows.now)) (λ e. rule.Publish number stages.now flows.now (meaning self.now) (rule.refused (number_of e)) (meaning self.now)) }
     {
         self.unmarked(number)?;
-        if !curve::makes_curve(stages, flows) {
-            return Err(Refusal::NoLawfulCurve);
-        }
+        let curve = Curve::new(stages, flows).ok_or(Refusal::NoLawfulCurve)?;
         if self.table.has(number) {
             return Err(Refusal::AlreadyInForce);
         }
-        match self.table.vacant() {
-            Some(i) => Ok(i),
-            None => Err(Refusal::NoFreePlace),
-        }
+        let place = self.table.vacant().ok_or(Refusal::NoFreePlace)?;
+        Ok((place, curve))
     }
 
     /// Puts a curve in force: 1, 2, 3, 4, 5. Which free place it takes is left open.
@@ -34,8 +36,8 @@ impl Core {
         ensures placed { IfAccepted result (Occupied self.old.table.places self.new.table.places number (points stages.now flows.now)) }
         ensures promises { Carries (meaning self.old) (rule.publish number stages.now flows.now) (answer_of result) [] (meaning self.new) }
     {
-        let place = self.weigh(number, stages, flows)?;
-        self.table.occupy(place, number, stages, flows);
+        let (place, curve) = self.weigh(number, stages, flows)?;
+        self.table.occupy(place, number, curve);
         Ok(())
     }
 }

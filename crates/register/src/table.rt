@@ -4,17 +4,20 @@ ghost use Rattle.std.specs.Borrow.{sem, follows};
 ghost use Rattle.register.specs.contracts.table.Table.{the_row as table};
 ghost use Rattle.register.specs.declared.place.Place.{Place as P};
 ghost use Rattle.register.specs.declared.place.PlaceState.TheVariants.{Free, InForce};
-ghost use Rattle.register.specs.Places.{held, bears, is_free_place, Nowhere, NoneFree, blank, unused, Level, once};
+ghost use Rattle.register.specs.Places.{held, bears, is_free_place, Nowhere, NoneFree, blank, once};
 
 use crate::place::{Place, PlaceState};
+use curve::Curve;
 
 /// The places of a register.
+// a device has no heap and fixed memory: the places are an array, and one is lent at a time
 #[derive(Clone, Copy)]
 pub struct Table<T> {
     pub places: [T; 32],
 }
 
 impl<T> Table<T> {
+    // an index and no type for one: it is found, lent by and forgotten within one call
     /// Lends a place. When the loan ends, the table holds there what was left there, and is else as it was.
     pub(crate) fn place(&mut self, i: usize) -> &mut T
         requires { i < 32 }
@@ -28,7 +31,7 @@ impl<T> Table<T> {
 impl Table<Place> {
     /// A table whose places are all free.
     pub(crate) fn empty() -> Table<Place>
-        ensures { result.places ≡ replicate 32 unused }
+        ensures { (p : P) × (result.places ≡ replicate 32 p) × (p.state ≡ Free) }
     {
         let place = Place {
             state: PlaceState::Free,
@@ -45,13 +48,9 @@ impl Table<Place> {
     pub(crate) fn find(&self, number: u16) -> Option<usize>
         ensures { MatchOption result (Nowhere self.now.places number) (λ i. (i < 32) × (bears (get_or self.now.places i blank).state number ≡ true)) }
     {
-        let places = &self.places[..];
-        for i in 0..places.len() {
-            if places[i].state.bears(number) {
-                return Some(i);
-            }
-        }
-        None
+        self.places
+            .iter()
+            .position(|place| place.state == PlaceState::InForce(number))
     }
 
     /// Whether a place is in force with a number.
@@ -59,39 +58,30 @@ impl Table<Place> {
         ensures none { result ≡ false → Nowhere self.now.places number }
         ensures some { result ≡ true → Nowhere self.now.places number → ⊥ }
     {
-        match self.find(number) {
-            Some(_) => true,
-            None => false,
-        }
+        self.find(number).is_some()
     }
 
     /// A free place, if there is one. Which of them is nobody's business.
     pub(crate) fn vacant(&self) -> Option<usize>
         ensures { MatchOption result (NoneFree self.now.places) (λ i. (i < 32) × (is_free_place (get_or self.now.places i blank).state ≡ true)) }
     {
-        let places = &self.places[..];
-        for i in 0..places.len() {
-            if places[i].state.is_free() {
-                return Some(i);
-            }
-        }
-        None
+        self.places
+            .iter()
+            .position(|place| place.state == PlaceState::Free)
     }
 
     /// Puts a curve in force at a place, and changes no other.
-    pub(crate) fn occupy(&mut self, i: usize, number: u16, stages: &[i32], flows: &[u32])
-        requires place { i < 32 }
-        requires same { length stages.now ≡ length flows.now }
-        requires few { length stages.now ≤ 16 }
-        ensures { (p : P) × (self.new.places ≡ slice_set self.old.places i p) × (p.state ≡ InForce number) × (p.count ≡ length stages.now) × (take p.count p.stages ≡ stages.now) × (take p.count p.flows ≡ flows.now) }
+    pub(crate) fn occupy(&mut self, i: usize, number: u16, curve: Curve<'_>)
+        requires { i < 32 }
+        ensures { (p : P) × (self.new.places ≡ slice_set self.old.places i p) × (p.state ≡ InForce number) × (take p.count p.stages ≡ curve.entry.stages.now) × (take p.count p.flows ≡ curve.entry.flows.now) }
     {
-        self.place(i).hold(number, stages, flows);
+        *self.place(i) = Place::of(number, curve);
     }
 
     /// Frees a place, and changes no other.
     fn release(&mut self, i: usize)
         requires { i < 32 }
-        ensures { (p : P) × (self.new.places ≡ slice_set self.old.places i p) × (p.state ≡ Free) × (p.count ≡ (get_or self.old.places i blank).count) × (p.stages ≡ (get_or self.old.places i blank).stages) × (p.flows ≡ (get_or self.old.places i blank).flows) }
+        ensures { (p : P) × (self.new.places ≡ slice_set self.old.places i p) × (p.state ≡ Free) }
     {
         self.place(i).state = PlaceState::Free;
     }
@@ -106,12 +96,9 @@ impl Table<Place> {
         ensures long { length self.new.places ≡ length self.old.places }
         ensures freed { (j : ℕ) → bears (get_or self.old.places j blank).state number ≡ true → is_free_place (get_or self.new.places j blank).state ≡ true }
         ensures stays { (j : ℕ) → bears (get_or self.old.places j blank).state number ≡ false → slice_index_or self.new.places j blank ≡ slice_index_or self.old.places j blank }
-        ensures levels { (j : ℕ) → Level (slice_index_or self.old.places j blank) → Level (slice_index_or self.new.places j blank) }
-        ensures counts { (j : ℕ) → (get_or self.new.places j blank).count ≡ (get_or self.old.places j blank).count }
     {
-        match self.find(number) {
-            None => {}
-            Some(i) => self.release(i),
+        if let Some(i) = self.find(number) {
+            self.release(i);
         }
     }
 }

@@ -1,19 +1,11 @@
 //! Withdraw: a number is marked, for good.
-ghost use Rattle.std.specs.Prelude.{◌≡◌, ◌<◌, true, [], length, slice_set};
+ghost use Rattle.std.specs.Prelude.{◌≡◌, []};
 ghost use Rattle.rules.specs.Calls as rule;
 ghost use Rattle.register.specs.Meaning.{meaning, answer_of, Vacated, IfAccepted, IfRefused, Carries};
 
 use crate::number::known;
 use crate::register::Core;
 use refusal::Refusal;
-
-/// Sets the mark of a number.
-fn mark(marks: &mut [bool], number: u16)
-    requires { number < length marks.old }
-    ensures { marks.new ≡ slice_set marks.old number true }
-{
-    marks[number as usize] = true;
-}
 
 impl Core {
     /// Marks a number as withdrawn, and frees the place of its curve: 1.
@@ -25,7 +17,7 @@ impl Core {
     {
         known(number)?;
         self.table.evict(number);
-        mark(&mut self.withdrawn, number);
+        self.withdrawn[number as usize] = true;
         Ok(())
     }
 }

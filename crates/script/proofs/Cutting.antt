@@ -1,6 +1,7 @@
 -- A line is its blanks, its first word and the rest.
-use Rattle.std.proofs.Common.{◌≡◌, ℕ, zero, suc, ◌-◌, ◌<◌, ◌≤◌, Bool, true, false, cond, eqb, List, [], ◌∷◌, ◌++◌, length, get_or, take, drop, sym, refl, ap, ◌∙◌, arith}
-use Rattle.std.proofs.lemmas.List.{append-nil, get_or-drop, length-drop}
+use Rattle.std.proofs.Common.{◌≡◌, Option, Some, None, MatchOption, unwrap_or, ℕ, zero, suc, ◌<◌, ◌≤◌, Bool, true, false, cond, eqb, List, [], ◌∷◌, ◌++◌, length, get_or, take, drop, sym, refl, ap, ◌∙◌, arith}
+use Rattle.std.specs.List.{AllWithin, HoldsAt}
+use Rattle.std.proofs.lemmas.List.{append-nil, get_or-drop, length-drop, drop_all}
 use Rattle.std.proofs.lemmas.Bool.Decides.{nat_tests}
 use Rattle.script.specs.Words.{blank, solid, longer, pieces, some, words}
 
@@ -96,17 +97,35 @@ words_first (suc n) (c ∷ cs) o l h f =
     ap some (pieces_ahead n c cs (omega (arith, l)) h)
     ∙ some_ahead c (take n cs) (drop n cs) (λ b. ap solid (get_or-drop n cs 0 0 ∙ ap (λ k. get_or cs k 0) (omega arith)) ∙ f (omega (arith, b, length-drop n cs)))
 
--- a line behind its blanks, of which there are b
-module _ (line xs : List ℕ) (b : ℕ) (is : xs ≡ drop b line) (within : b ≤ length line)
-    (before : (k : ℕ) → k < b → blank (get_or line k 0) ≡ true) where
-  pub word_none : (n : ℕ) → (b < length line → blank (get_or line b 0) ≡ false) → n ≡ 0 → (n < length xs → solid (get_or xs n 0) ≡ false) → words line ≡ []
-  word_none n found e h =
-      let first : get_or xs 0 0 ≡ get_or line b 0 = ap (λ ys. get_or ys 0 0) is ∙ get_or-drop b line 0 0 ∙ ap (λ k. get_or line k 0) (omega arith) in
-      let long : length xs ≡ length line - b = ap length is ∙ length-drop b line in
-      words_skip b line within before ∙ ap words (sym is)
-      ∙ words-none xs (λ o. ap blank first ∙ found (omega (arith, o))) (λ o. ap (λ k. solid (get_or xs k 0)) (sym e) ∙ h (omega (arith, o)))
+-- a line of blanks alone
+pub words_blanks : (xs : List ℕ) → AllWithin (λ c. blank c ≡ true) xs 0 (length xs) → words xs ≡ []
+words_blanks xs h =
+    words_skip (length xs) xs (omega arith) (λ k l. h k 0 (omega arith) l) ∙ ap words (drop_all (length xs) xs (omega arith))
+    ∙ words-none [] (λ l. absurd (omega (arith, l))) (λ l. absurd (omega (arith, l)))
 
-  pub word_first : (n : ℕ) → (n ≡ 0 → ⊥) → n ≤ length xs → ((k : ℕ) → k < n → solid (get_or xs k 0) ≡ true)
-      → (n < length xs → solid (get_or xs n 0) ≡ false) → words line ≡ take n xs ∷ words (drop n xs)
-  word_first n Some-of l h f =
-      words_skip b line within before ∙ ap words (sym is) ∙ words_first n xs (omega (arith, Some-of)) l h f
+-- how many bytes of a word a line begins with, by the first that is none
+pub record Run (xs : List ℕ) (n : ℕ) : Type 0 where
+  pub within : n ≤ length xs
+  pub before : (k : ℕ) → k < n → solid (get_or xs k 0) ≡ true
+  pub found : n < length xs → solid (get_or xs n 0) ≡ false
+
+pub run_of : (o : Option ℕ) (xs : List ℕ)
+    → MatchOption o (AllWithin (λ c. solid c ≡ true) xs 0 (length xs))
+    (λ i. (i < length xs) × HoldsAt (λ c. solid c ≡ false) xs i × AllWithin (λ c. solid c ≡ true) xs 0 i)
+    → Run xs (unwrap_or o (length xs))
+run_of None xs h = record { within = omega arith; before = λ k l. h k 0 (omega arith) l; found = λ l. absurd (omega (arith, l)) }
+run_of (Some i) xs h = record { within = omega (arith, h.0); before = λ k l. h.2 k 0 (omega arith) l; found = λ _. h.1 0 }
+
+-- a line behind its blanks, of which there are b
+module _ (line xs : List ℕ) (b : ℕ) (is : xs ≡ drop b line)
+    (blanks : (b < length line) × HoldsAt (λ c. blank c ≡ false) line b × AllWithin (λ c. blank c ≡ true) line 0 b) where
+  skipped : words line ≡ words xs
+  skipped = words_skip b line (omega (arith, blanks.0)) (λ k l. blanks.2 k 0 (omega arith) l) ∙ ap words (sym is)
+
+  pub word_none : (n : ℕ) → n ≡ 0 → Run xs n → words line ≡ []
+  word_none n e r =
+      let first : get_or xs 0 0 ≡ get_or line b 0 = ap (λ ys. get_or ys 0 0) is ∙ get_or-drop b line 0 0 ∙ ap (λ k. get_or line k 0) (omega arith) in
+      skipped ∙ words-none xs (λ o. ap blank first ∙ blanks.1 0) (λ o. ap (λ k. solid (get_or xs k 0)) (sym e) ∙ r.found (omega (arith, o, e)))
+
+  pub word_first : (n : ℕ) → (n ≡ 0 → ⊥) → Run xs n → words line ≡ take n xs ∷ words (drop n xs)
+  word_first n not_none r = skipped ∙ words_first n xs (omega (arith, not_none)) r.within r.before r.found

@@ -1,3 +1,3 @@
 pub mod ByteWords
 pub mod Cutting
-pub mod Texts
+pub mod Misreading

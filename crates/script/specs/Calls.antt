@@ -7,12 +7,12 @@
 --   Lawful v a            its bytes are bytes, its block is one
 --   verb_of c, args_of c  a call's verb, and what it is about
 --   Says ws c             the words ws are the call c
+--   Said                  what is read off words
 --   Fault v ws e          why the words ws after the verb v are no call
+--   fault_of v m          what is said of words after the verb v that are not read
+--   Takes v ws r          r is what is read off the words ws after the verb v
 --   Reads ws r            r is what is read off the words of a line
-use Rattle.std.specs.Prelude.{◌≡◌, ℕ, List, [], ◌∷◌, Some, None, Ok, Err, vec_items, codes, Option, Result, Vec, ◌≢◌}
-use Rattle.std.specs.Borrow.{Bor}
-use Rattle.std.specs.declared.alloc.AllocError.{AllocError}
-use Rattle.std.specs.declared.alloc.Global.{Global}
+use Rattle.std.specs.Prelude.{◌≡◌, ℕ, List, [], ◌∷◌, Some, None, Ok, Err, vec_items, codes, Option, Result, ◌≢◌}
 use Rattle.cipher.specs.declared.block.Block.{Block}
 use Rattle.cipher.specs.Blocks.{Sound}
 use Rattle.cipher.specs.Bytes.{Bytes, bytes_of}
@@ -23,6 +23,8 @@ use Rattle.script.specs.declared.call.Make.{Make}
 use Rattle.script.specs.declared.call.Make.TheVariants as make
 use Rattle.script.specs.declared.call.Work.{Work}
 use Rattle.script.specs.declared.call.Work.TheVariants as work
+use Rattle.script.specs.declared.misread.Misread.{Misread}
+use Rattle.script.specs.declared.misread.Misread.TheVariants as misread
 use Rattle.script.specs.declared.unreadable.Unreadable.{Unreadable}
 use Rattle.script.specs.declared.unreadable.Unreadable.TheVariants.{UnknownVerb, Form, UnknownName, NameTaken, NotKeyed, Memory}
 use Rattle.script.specs.declared.verb.Verb.{Verb}
@@ -46,18 +48,6 @@ abbrev pub bytes_word : List ℕ → List ℕ
 bytes_word [] = codes "-"
 bytes_word (b ∷ bs) = spelled (b ∷ bs)
 
--- the bytes that digits spell, if they spell some; want of memory aside
-abbrev pub SpelledBytes : List ℕ → Result (Option (Vec ℕ Global)) AllocError → Type 0
-SpelledBytes w (Ok None) = (bs : List ℕ) → Bytes bs → w ≢ spelled bs
-SpelledBytes w (Ok (Some v)) = (w ≡ spelled (vec_items v)) × Bytes (vec_items v)
-SpelledBytes w (Err e) = Unit {0}
-
--- the bytes that a word says, if it says some; want of memory aside
-abbrev pub ReadBytes : List ℕ → Result (Option (Vec ℕ Global)) AllocError → Type 0
-ReadBytes w (Ok None) = (bs : List ℕ) → Bytes bs → w ≢ bytes_word bs
-ReadBytes w (Ok (Some v)) = (w ≡ bytes_word (vec_items v)) × Bytes (vec_items v)
-ReadBytes w (Err e) = Unit {0}
-
 -- what is enciphered: a block, or a text by a mode's name from a start
 pub data Working : Type 0 where
   one : Block → Working
@@ -75,22 +65,11 @@ abbrev pub working : Work → Working
 working (work.Block b) = one b
 working (work.Text m s t) = text m.now s (vec_items t)
 
--- what words say is to be enciphered, if they say something; want of memory aside
-abbrev pub ReadWork : List (List ℕ) → Result (Option Work) AllocError → Type 0
-ReadWork ws (Ok None) = (w : Working) → LawfulWorking w → ws ≢ working_words w
-ReadWork ws (Ok (Some x)) = (ws ≡ working_words (working x)) × LawfulWorking (working x)
-ReadWork ws (Err e) = Unit {0}
-
--- a name before such words
-abbrev pub NamedBytes : List (List ℕ) → Result (Option (Bor (List ℕ) × Vec ℕ Global)) AllocError → Type 0
-NamedBytes ws (Ok None) = (a : List ℕ × List ℕ) → Bytes a.1 → ws ≢ a.0 ∷ bytes_word a.1 ∷ []
-NamedBytes ws (Ok (Some x)) = (ws ≡ x.0.now ∷ bytes_word (vec_items x.1) ∷ []) × Bytes (vec_items x.1)
-NamedBytes ws (Err e) = Unit {0}
-
-abbrev pub NamedWork : List (List ℕ) → Result (Option (Bor (List ℕ) × Work)) AllocError → Type 0
-NamedWork ws (Ok None) = (a : List ℕ × Working) → LawfulWorking a.1 → ws ≢ a.0 ∷ working_words a.1
-NamedWork ws (Ok (Some x)) = (ws ≡ x.0.now ∷ working_words (working x.1)) × LawfulWorking (working x.1)
-NamedWork ws (Err e) = Unit {0}
+-- what is read off a word or words w, of which says is how a value is written: a lawful value, or there is none; want of memory aside
+abbrev pub Said : {W A T : Type 0} → (A → Type 0) → (A → W) → (T → A) → W → Result T Misread → Type 0
+Said {W} {A} {T} lawful says view w (Ok x) = (w ≡ says (view x)) × lawful (view x)
+Said {W} {A} {T} lawful says view w (Err misread.Form) = (a : A) → lawful a → w ≢ says a
+Said {W} {A} {T} lawful says view w (Err misread.Memory) = Unit {0}
 
 abbrev pub Args : Verb → Type 0
 Args Cipher = List ℕ × Making
@@ -157,10 +136,15 @@ Fault v ws NameTaken = ⊥
 Fault v ws NotKeyed = ⊥
 Fault v ws Memory = Allocates v
 
+-- why a line is no call, where the words after its verb are not read
+abbrev pub fault_of : Verb → Misread → Unreadable
+fault_of v misread.Form = Form v
+fault_of v misread.Memory = Memory
+
 -- what is read off the words after a verb
-abbrev pub Takes : Verb → List (List ℕ) → Result Call Unreadable → Type 0
+abbrev pub Takes : Verb → List (List ℕ) → Result Call Misread → Type 0
 Takes v ws (Ok c) = Says (verb_word v ∷ ws) c
-Takes v ws (Err e) = Fault v ws e
+Takes v ws (Err m) = Fault v ws (fault_of v m)
 
 -- no verb is the first word, or the words after it are no call
 pub data Wrong (ws : List (List ℕ)) (e : Unreadable) : Type 0 where

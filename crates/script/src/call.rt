@@ -2,7 +2,7 @@
 use cipher::block::Block;
 
 /// What a cipher is to be made as. A triple is made of three earlier ciphers, by their names.
-#[derive(Clone, Copy)]
+#[derive(Clone, Copy, PartialEq, Eq, Debug)]
 pub enum Make<'a> {
     Blowfish,
     Xtea,

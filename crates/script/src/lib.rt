@@ -4,6 +4,7 @@
 #![tactic(auto)]
 
 mod call;
+mod misread;
 mod reading;
 mod unreadable;
 mod verb;

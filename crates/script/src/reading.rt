@@ -1,30 +1,35 @@
 //! Reads calls off lines.
-ghost use Rattle.std.specs.Prelude.{◌≡◌, ℕ, List, [], ◌∷◌, codes, Decides, MatchOption, ◌≢◌};
+ghost use Rattle.std.specs.Prelude.{◌≡◌, ℕ, List, [], ◌∷◌, codes, vec_items, Decides, MatchOption, ◌≢◌};
 ghost use Rattle.cipher.specs.Blocks.{Sound};
-ghost use Rattle.cipher.specs.Bytes.{bytes_of};
+ghost use Rattle.cipher.specs.Bytes.{Bytes, bytes_of};
 ghost use Rattle.cipher.specs.declared.block.Block.{Block as B};
 ghost use Rattle.hex_digits.specs.Digits.{spelled, NoBlock};
 ghost use Rattle.script.specs.declared.call.Work.TheVariants as W;
-ghost use Rattle.script.specs.Calls.{making, making_words, NoMaking, ReadBytes, SpelledBytes, ReadWork, NamedBytes, NamedWork, Takes, Reads};
-ghost use Rattle.script.specs.declared.verb.Verb.TheVariants as V;
+ghost use Rattle.script.specs.Calls.{making, making_words, NoMaking, bytes_word, working, working_words, LawfulWorking, Said, Takes, Reads};
 ghost use Rattle.script.specs.Words.{words as words_of};
 
 use crate::call::{Call, Make, Work};
+use crate::misread::Misread;
 use crate::unreadable::Unreadable;
 use crate::verb::Verb;
 use crate::words::word;
-use std::alloc::{AllocError, Global};
-use std::str::from_utf8;
+use std::alloc::Global;
+
+// Heap and line stand apart: a line gets shorter from function to function, and the heap stays.
+
+/// Whether a line has no words.
+fn ends(line: &[u8]) -> bool
+    ensures { Decides result (words_of line.now ≡ []) }
+{
+    word(line).is_none()
+}
 
 /// The one word that a line has, if it has just one.
 fn last_word(line: &[u8]) -> Option<&[u8]>
     ensures { MatchOption result ((w : List ℕ) → words_of line.now ≢ w ∷ []) (λ x. words_of line.now ≡ x.now ∷ []) }
 {
     let (first, rest) = word(line)?;
-    match word(rest) {
-        Some(_) => None,
-        None => Some(first),
-    }
+    ends(rest).then_some(first)
 }
 
 /// The three words that a line has, if it has just three, as the parts of a triple.
@@ -42,148 +47,64 @@ fn make(line: &[u8]) -> Option<Make<'_>>
     ensures { MatchOption result (NoMaking (words_of line.now)) (λ m. words_of line.now ≡ making_words (making m)) }
 {
     let (kind, rest) = word(line)?;
-    let Ok(text) = from_utf8(kind) else {
-        return None;
-    };
-    match (text, word(rest)) {
-        ("blowfish", None) => Some(Make::Blowfish),
-        ("xtea", None) => Some(Make::Xtea),
-        ("triple", _) => triple(rest),
+    match kind {
+        b"blowfish" => ends(rest).then_some(Make::Blowfish),
+        b"xtea" => ends(rest).then_some(Make::Xtea),
+        b"triple" => triple(rest),
         _ => None,
     }
 }
 
-/// The bytes that a word says, if it says some: capital hexadecimal digits, or a hyphen for none.
-fn bytes(heap: Global, digits: &[u8]) -> Result<Option<Vec<u8>>, AllocError>
-    ensures { ReadBytes digits.now result }
+/// The bytes that a word says: capital hexadecimal digits, or a hyphen for none.
+fn bytes(heap: Global, word: &[u8]) -> Result<Vec<u8>, Misread>
+    ensures { Said Bytes bytes_word vec_items word.now result }
 {
-    if digits.is_empty() {
-        return Ok(None);
+    if word.is_empty() {
+        return Err(Misread::Form);
     }
-    if is_hyphen(digits) {
-        return Ok(Some(Vec::new(heap)));
+    if word == b"-".as_slice() {
+        return Ok(Vec::new(heap));
     }
-    digit_bytes(heap, digits)
+    digit_bytes(heap, word)
 }
 
-/// Whether a word is a hyphen, which stands for no bytes.
-fn is_hyphen(word: &[u8]) -> bool
-    ensures { Decides result (word.now ≡ codes "-") }
-{
-    match from_utf8(word) {
-        Ok(text) => text == "-",
-        Err(_) => false,
-    }
-}
-
-/// The bytes that digits spell, if they spell some.
-fn digit_bytes(heap: Global, digits: &[u8]) -> Result<Option<Vec<u8>>, AllocError>
-    ensures { SpelledBytes digits.now result }
+/// The bytes that digits spell.
+fn digit_bytes(heap: Global, digits: &[u8]) -> Result<Vec<u8>, Misread>
+    ensures { Said Bytes spelled vec_items digits.now result }
 {
     let mut bytes = vec![in heap; 0; digits.len() / 2]?;
-    if hex_digits::read(digits, bytes.as_mut_slice()) {
-        Ok(Some(bytes))
-    } else {
-        Ok(None)
+    match hex_digits::read(digits, bytes.as_mut_slice()) {
+        Ok(()) => Ok(bytes),
+        Err(_) => Err(Misread::Form),
     }
 }
 
-/// The call that makes a cipher.
-fn cipher<'a>(line: &'a [u8]) -> Result<Call<'a>, Unreadable>
-    ensures { Takes V.Cipher (words_of line.now) result }
+/// The bytes that a line says in its one word.
+fn last_bytes(heap: Global, line: &[u8]) -> Result<Vec<u8>, Misread>
+    ensures { Said Bytes (λ bs. bytes_word bs ∷ []) vec_items (words_of line.now) result }
 {
-    let Some((name, rest)) = word(line) else {
-        return Err(Unreadable::Form(Verb::Cipher));
-    };
-    match make(rest) {
-        Some(make) => Ok(Call::Cipher(name, make)),
-        None => Err(Unreadable::Form(Verb::Cipher)),
-    }
-}
-
-/// A name and bytes, if a line has just these.
-fn name_and_bytes<'a>(
-    heap: Global,
-    line: &'a [u8],
-) -> Result<Option<(&'a [u8], Vec<u8>)>, AllocError>
-    ensures { NamedBytes (words_of line.now) result }
-{
-    let Some((name, rest)) = word(line) else {
-        return Ok(None);
-    };
-    let Some(digits) = last_word(rest) else {
-        return Ok(None);
-    };
-    match bytes(heap, digits)? {
-        Some(said) => Ok(Some((name, said))),
-        None => Ok(None),
-    }
-}
-
-/// The call that loads a key.
-fn load<'a>(heap: Global, line: &'a [u8]) -> Result<Call<'a>, Unreadable>
-    ensures { Takes V.Load (words_of line.now) result }
-{
-    match name_and_bytes(heap, line) {
-        Ok(Some((name, key))) => Ok(Call::Load(name, key)),
-        Ok(None) => Err(Unreadable::Form(Verb::Load)),
-        Err(_) => Err(Unreadable::Memory),
-    }
-}
-
-/// The call that tags a text.
-fn tag<'a>(heap: Global, line: &'a [u8]) -> Result<Call<'a>, Unreadable>
-    ensures { Takes V.Tag (words_of line.now) result }
-{
-    match name_and_bytes(heap, line) {
-        Ok(Some((name, text))) => Ok(Call::Tag(name, text)),
-        Ok(None) => Err(Unreadable::Form(Verb::Tag)),
-        Err(_) => Err(Unreadable::Memory),
-    }
-}
-
-/// The call that asks for a mode.
-fn mode<'a>(line: &'a [u8]) -> Result<Call<'a>, Unreadable>
-    ensures { Takes V.Mode (words_of line.now) result }
-{
-    match last_word(line) {
-        Some(name) => Ok(Call::Mode(name)),
-        None => Err(Unreadable::Form(Verb::Mode)),
-    }
+    let word = last_word(line).ok_or(Misread::Form)?;
+    bytes(heap, word)
 }
 
 /// A text by a mode: the start and the text stand in `line`, behind the mode's name.
-fn text<'a>(
-    heap: Global,
-    name: &'a [u8],
-    start: &[u8],
-    line: &[u8],
-) -> Result<Option<Work<'a>>, AllocError>
-    ensures { ReadWork (name.now ∷ start.now ∷ words_of line.now) result }
+fn text<'a>(heap: Global, name: &'a [u8], start: &[u8], line: &[u8]) -> Result<Work<'a>, Misread>
+    ensures { Said LawfulWorking working_words working (name.now ∷ start.now ∷ words_of line.now) result }
 {
-    let Some(digits) = last_word(line) else {
-        return Ok(None);
-    };
-    let Some(start) = hex_digits::read_block(start) else {
-        return Ok(None);
-    };
-    match bytes(heap, digits)? {
-        Some(text) => Ok(Some(Work::Text(name, start, text))),
-        None => Ok(None),
-    }
+    let start = hex_digits::read_block(start).ok_or(Misread::Form)?;
+    let text = last_bytes(heap, line)?;
+    Ok(Work::Text(name, start, text))
 }
 
-/// What is to be enciphered or deciphered, if a line says it.
-fn work<'a>(heap: Global, line: &'a [u8]) -> Result<Option<Work<'a>>, AllocError>
-    ensures { ReadWork (words_of line.now) result }
+/// What is to be enciphered or deciphered.
+fn work<'a>(heap: Global, line: &'a [u8]) -> Result<Work<'a>, Misread>
+    ensures { Said LawfulWorking working_words working (words_of line.now) result }
 {
-    let Some((first, rest)) = word(line) else {
-        return Ok(None);
-    };
-    let Some((start, rest)) = word(rest) else {
-        return Ok(one(first));
-    };
-    text(heap, first, start, rest)
+    let (first, rest) = word(line).ok_or(Misread::Form)?;
+    match word(rest) {
+        Some((start, rest)) => text(heap, first, start, rest),
+        None => one(first).ok_or(Misread::Form),
+    }
 }
 
 /// One block, if a word is one.
@@ -194,41 +115,19 @@ fn one<'a>(digits: &'a [u8]) -> Option<Work<'a>>
     Some(Work::Block(block))
 }
 
-/// A name and what is to be enciphered or deciphered, if a line has just these.
-fn name_and_work<'a>(
-    heap: Global,
-    line: &'a [u8],
-) -> Result<Option<(&'a [u8], Work<'a>)>, AllocError>
-    ensures { NamedWork (words_of line.now) result }
+/// The call that a line says after its verb.
+fn after<'a>(heap: Global, verb: Verb, line: &'a [u8]) -> Result<Call<'a>, Misread>
+    ensures { Takes verb (words_of line.now) result }
 {
-    let Some((name, rest)) = word(line) else {
-        return Ok(None);
-    };
-    match work(heap, rest)? {
-        Some(said) => Ok(Some((name, said))),
-        None => Ok(None),
-    }
-}
-
-/// The call that enciphers.
-fn encipher<'a>(heap: Global, line: &'a [u8]) -> Result<Call<'a>, Unreadable>
-    ensures { Takes V.Encipher (words_of line.now) result }
-{
-    match name_and_work(heap, line) {
-        Ok(Some((name, work))) => Ok(Call::Encipher(name, work)),
-        Ok(None) => Err(Unreadable::Form(Verb::Encipher)),
-        Err(_) => Err(Unreadable::Memory),
-    }
-}
-
-/// The call that deciphers.
-fn decipher<'a>(heap: Global, line: &'a [u8]) -> Result<Call<'a>, Unreadable>
-    ensures { Takes V.Decipher (words_of line.now) result }
-{
-    match name_and_work(heap, line) {
-        Ok(Some((name, work))) => Ok(Call::Decipher(name, work)),
-        Ok(None) => Err(Unreadable::Form(Verb::Decipher)),
-        Err(_) => Err(Unreadable::Memory),
+    let (name, rest) = word(line).ok_or(Misread::Form)?;
+    match verb {
+        Verb::Cipher => Ok(Call::Cipher(name, make(rest).ok_or(Misread::Form)?)),
+        Verb::Load => Ok(Call::Load(name, last_bytes(heap, rest)?)),
+        Verb::Encipher => Ok(Call::Encipher(name, work(heap, rest)?)),
+        Verb::Decipher => Ok(Call::Decipher(name, work(heap, rest)?)),
+        Verb::Mode if ends(rest) => Ok(Call::Mode(name)),
+        Verb::Mode => Err(Misread::Form),
+        Verb::Tag => Ok(Call::Tag(name, last_bytes(heap, rest)?)),
     }
 }
 
@@ -239,22 +138,7 @@ pub fn read<'a>(heap: Global, line: &'a [u8]) -> Result<Option<Call<'a>>, Unread
     let Some((first, rest)) = word(line) else {
         return Ok(None);
     };
-    let Some(verb) = Verb::read(first) else {
-        return Err(Unreadable::UnknownVerb);
-    };
-    Ok(Some(after(heap, verb, rest)?))
-}
-
-/// The call that a line says after its verb.
-fn after<'a>(heap: Global, verb: Verb, line: &'a [u8]) -> Result<Call<'a>, Unreadable>
-    ensures { Takes verb (words_of line.now) result }
-{
-    match verb {
-        Verb::Cipher => cipher(line),
-        Verb::Load => load(heap, line),
-        Verb::Encipher => encipher(heap, line),
-        Verb::Decipher => decipher(heap, line),
-        Verb::Mode => mode(line),
-        Verb::Tag => tag(heap, line),
-    }
+    let verb = Verb::try_from(first)?;
+    let call = after(heap, verb, rest).map_err(|misread| misread.after(verb))?;
+    Ok(Some(call))
 }

@@ -6,7 +6,7 @@ use crate::verb::Verb;
 use std::fmt;
 
 /// Why a line is not carried out: it is no call, or names what is not there.
-#[derive(Clone, Copy)]
+#[derive(Clone, Copy, PartialEq, Eq, Debug)]
 pub enum Unreadable {
     /// No call begins with the line's first word.
     UnknownVerb,
@@ -42,7 +42,6 @@ impl fmt::Display for Unreadable {
     ghost output = { λ u. Some (why_of u) };
 
     fn fmt<W: fmt::Write>(&self, f: &mut fmt::Formatter<W>) -> fmt::Result {
-        let why = self.why();
-        write!(f, "{why}")
+        f.write_str(self.why())
     }
 }

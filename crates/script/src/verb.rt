@@ -1,11 +1,12 @@
 //! The words that calls begin with.
-ghost use Rattle.std.specs.Prelude.{◌≡◌, MatchOption};
+ghost use Rattle.std.specs.Prelude.{◌≡◌, MatchResult};
+ghost use Rattle.script.specs.declared.unreadable.Unreadable.TheVariants.{UnknownVerb};
 ghost use Rattle.script.specs.Verbs.{verb_word, usage_of, NoVerb};
 
-use std::str::from_utf8;
+use crate::unreadable::Unreadable;
 
 /// What a call asks for, by its first word.
-#[derive(Clone, Copy)]
+#[derive(Clone, Copy, PartialEq, Eq, Debug)]
 pub enum Verb {
     Cipher,
     Load,
@@ -15,25 +16,26 @@ pub enum Verb {
     Tag,
 }
 
-impl Verb {
-    /// The verb that a word is, if it is one.
-    pub(crate) fn read(word: &[u8]) -> Option<Verb>
-        ensures { MatchOption result (NoVerb word.now) (λ v. word.now ≡ verb_word v) }
-    {
-        let Ok(text) = from_utf8(word) else {
-            return None;
-        };
-        match text {
-            "cipher" => Some(Verb::Cipher),
-            "load" => Some(Verb::Load),
-            "encipher" => Some(Verb::Encipher),
-            "decipher" => Some(Verb::Decipher),
-            "mode" => Some(Verb::Mode),
-            "tag" => Some(Verb::Tag),
-            _ => None,
+/// The verb that a word is; a word that is none is an unknown one.
+impl TryFrom<&[u8]> for Verb {
+    type Error = Unreadable;
+
+    ghost try_from_gives = { λ word r. MatchResult r (λ v. word.now ≡ verb_word v) (λ e. (e ≡ UnknownVerb) × NoVerb word.now) };
+
+    fn try_from(word: &[u8]) -> Result<Verb, Unreadable> {
+        match word {
+            b"cipher" => Ok(Verb::Cipher),
+            b"load" => Ok(Verb::Load),
+            b"encipher" => Ok(Verb::Encipher),
+            b"decipher" => Ok(Verb::Decipher),
+            b"mode" => Ok(Verb::Mode),
+            b"tag" => Ok(Verb::Tag),
+            _ => Err(Unreadable::UnknownVerb),
         }
     }
+}
 
+impl Verb {
     /// How a call of this verb is written.
     pub fn usage(self) -> &'static str
         ensures { result.now ≡ usage_of self }

@@ -1,6 +1,5 @@
 pub mod Entries
+pub mod Faults
 pub mod Finding
 pub mod Loading
 pub mod ModeNames
-pub mod Performing
-pub mod Texting

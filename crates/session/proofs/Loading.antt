@@ -1,9 +1,8 @@
 -- A key that is loaded.
 use Rattle.std.proofs.Common.{◌≡◌, ℕ, true, cond, List, get_or, set, is_some, Some, None, Ok, Option, sym, refl, ap, ◌∙◌, arith}
-use Rattle.chosen.specs.declared.Chosen.TheVariants.{One}
-use Rattle.chosen.specs.declared.Keyed.{Keyed}
-use Rattle.chosen.specs.Kinds.{keyed_kind}
+use Rattle.chosen.specs.Kinds.{Keyed, keyed_kind}
 use Rattle.chosen.specs.Meanings.{keyed_enc, keyed_dec, enc_under, dec_under}
+use Rattle.cipher.specs.declared.one_of.OneOf.TheVariants.{First as One}
 use Rattle.session.specs.Calls.{under}
 use Rattle.session.specs.Performed.{restood}
 use Rattle.session.specs.State.{Meaning, State, At, find, put, keyed_in, keyed_at}

@@ -4,9 +4,10 @@
 --   ede p q o            three ciphers in a row: p's E, q's D, o's E
 --   made s m             the cipher that is made, or why it is not
 --   Makes, Loads, Enciphers, Deciphers, Codes, Tags      a call of the verb, with its cases
---   Enciphered, Deciphered                  a text by a mode
+--   Turned               a block or a text through a cipher, either way
+--   Enciphered, Deciphered                  a text by a mode; ByMode, either way
 --   Does v a s r t       a call of the verb v about a
-use Rattle.std.specs.Prelude.{◌≡◌, ℕ, ◌≤◌, List, [], ◌∷◌, ◌++◌, length, replicate, Some, None, Ok, Err, vec_items, Result, Vec}
+use Rattle.std.specs.Prelude.{◌≡◌, ℕ, ◌≤◌, List, [], ◌∷◌, ◌++◌, length, replicate, Some, None, Ok, Err, Result, String, string_bytes}
 use Rattle.std.specs.declared.alloc.Global.{Global}
 use Rattle.blowfish.specs.Blowfish as blowfishes
 use Rattle.blowfish.specs.Schedule.{initial}
@@ -23,7 +24,7 @@ use Rattle.script.specs.declared.verb.Verb.TheVariants.{Cipher, Load, Encipher, 
 use Rattle.modes.specs.declared.mode.Mode as mode
 use Rattle.modes.specs.Cmac.{tag_of}
 use Rattle.modes.specs.Names.{called, Unnamed}
-use Rattle.modes.specs.Texts.{Whole, OneText, enciphered, following}
+use Rattle.modes.specs.Texts as texts
 use Rattle.script.specs.Calls.{Making, Working, Args, bytes_word}
 use Rattle.script.specs.Calls.Working.{one, text}
 use Rattle.script.specs.Calls.Making.{blowfish, xtea, triple}
@@ -69,32 +70,36 @@ pub data Loads (n key : List ℕ) (s : State) (r : Answer) (t : State) : Type 0 
   refused : (x : Meaning) (e : Refusal) → keyed_at n s ≡ Ok x → (Lengths x.kind (length key) → ⊥) → r ≡ Refused e → number_of e ≡ 16 → t ≡ s → Loads n key s r t
   loads : (x : Meaning) → keyed_at n s ≡ Ok x → Lengths x.kind (length key) → r ≡ Accepted value.Nothing → t ≡ put n (under x.kind key) s → Loads n key s r t
 
--- a text by a mode: 18 where no mode has the name, 17 where it is not whole blocks or too long;
--- else the block with which a following piece starts, and the text
-pub data Enciphered (m : List ℕ) (E : Block → Block) (c : Block) (z : List ℕ) (r : Answer) : Type 0 where
-  no_mode : (e : Refusal) → Unnamed m → r ≡ Refused e → number_of e ≡ 18 → Enciphered m E c z r
-  not_whole : (k : mode.Mode) (e : Refusal) → m ≡ (called k).0 → (Whole z → ⊥) → r ≡ Refused e → number_of e ≡ 17 → Enciphered m E c z r
-  no_memory : (k : mode.Mode) → m ≡ (called k).0 → Whole z → r ≡ unreadable why.Memory → Enciphered m E c z r
-  done : (k : mode.Mode) (b : Block) (v : Vec ℕ Global) → m ≡ (called k).0 → Whole z → r ≡ Accepted (value.Text b v) → b ≡ following k E c z
-      → vec_items v ≡ bytes_word (enciphered k E c z) → Enciphered m E c z r
+-- a text by a mode under E, where T is what the call on a buffer answers and leaves: 18 where no mode has the name, else as that call is;
+-- memory for the answer is asked for last
+pub data ByMode (T : mode.Mode → (Block → Block) → Block → List ℕ → Result Block Refusal → List ℕ → Type 0)
+    (m : List ℕ) (E : Block → Block) (c : Block) (z : List ℕ) (r : Answer) : Type 0 where
+  no_mode : (e : Refusal) → Unnamed m → r ≡ Refused e → number_of e ≡ 18 → ByMode T m E c z r
+  refused : (k : mode.Mode) (e : Refusal) (y : List ℕ) → m ≡ (called k).0 → T k E c z (Err e) y → r ≡ Refused e → ByMode T m E c z r
+  no_memory : (k : mode.Mode) (b : Block) (y : List ℕ) → m ≡ (called k).0 → T k E c z (Ok b) y → r ≡ unreadable why.Memory → ByMode T m E c z r
+  done : (k : mode.Mode) (b : Block) (v : String Global) (y : List ℕ) → m ≡ (called k).0 → T k E c z (Ok b) y → r ≡ Accepted (value.Text b v)
+      → string_bytes v ≡ bytes_word y → ByMode T m E c z r
 
--- the text is the one that enciphers to what was given
-pub data Deciphered (m : List ℕ) (E : Block → Block) (c : Block) (z : List ℕ) (r : Answer) : Type 0 where
-  no_mode : (e : Refusal) → Unnamed m → r ≡ Refused e → number_of e ≡ 18 → Deciphered m E c z r
-  not_whole : (k : mode.Mode) (e : Refusal) → m ≡ (called k).0 → (Whole z → ⊥) → r ≡ Refused e → number_of e ≡ 17 → Deciphered m E c z r
-  no_memory : (k : mode.Mode) → m ≡ (called k).0 → Whole z → r ≡ unreadable why.Memory → Deciphered m E c z r
-  done : (k : mode.Mode) (b : Block) (v : Vec ℕ Global) (y : List ℕ) → m ≡ (called k).0 → OneText k E c z y → r ≡ Accepted (value.Text b v)
-      → b ≡ following k E c y → vec_items v ≡ bytes_word y → Deciphered m E c z r
+-- 17 where the text is not whole blocks or too long; else the block with which a following piece starts, and the text
+abbrev pub Enciphered : List ℕ → (Block → Block) → Block → List ℕ → Answer → Type 0
+Enciphered = ByMode texts.Enciphers
 
-pub data Enciphers (n : List ℕ) (w : Working) (s : State) (r : Answer) (t : State) : Type 0 where
-  unknown : find n s ≡ None → r ≡ unreadable why.UnknownName → t ≡ s → Enciphers n w s r t
-  enciphers_block : (x : Meaning) (b : Block) → w ≡ one b → find n s ≡ Some x → r ≡ Accepted (value.Block (x.enc b)) → t ≡ s → Enciphers n w s r t
-  enciphers_text : (x : Meaning) (m : List ℕ) (c : Block) (z : List ℕ) → w ≡ text m c z → find n s ≡ Some x → Enciphered m x.enc c z r → t ≡ s → Enciphers n w s r t
+-- the same, and the text is the one that enciphers to what was given
+abbrev pub Deciphered : List ℕ → (Block → Block) → Block → List ℕ → Answer → Type 0
+Deciphered = ByMode texts.Deciphers
 
-pub data Deciphers (n : List ℕ) (w : Working) (s : State) (r : Answer) (t : State) : Type 0 where
-  unknown : find n s ≡ None → r ≡ unreadable why.UnknownName → t ≡ s → Deciphers n w s r t
-  deciphers_block : (x : Meaning) (b : Block) → w ≡ one b → find n s ≡ Some x → r ≡ Accepted (value.Block (x.dec b)) → t ≡ s → Deciphers n w s r t
-  deciphers_text : (x : Meaning) (m : List ℕ) (c : Block) (z : List ℕ) → w ≡ text m c z → find n s ≡ Some x → Deciphered m x.enc c z r → t ≡ s → Deciphers n w s r t
+-- a call about a block or a text, where a cipher turns a block by f, and T is what its E does to a text by a mode
+pub data Turned (f : Meaning → Block → Block) (T : List ℕ → (Block → Block) → Block → List ℕ → Answer → Type 0)
+    (n : List ℕ) (w : Working) (s : State) (r : Answer) (t : State) : Type 0 where
+  unknown : find n s ≡ None → r ≡ unreadable why.UnknownName → t ≡ s → Turned f T n w s r t
+  turns_block : (x : Meaning) (b : Block) → w ≡ one b → find n s ≡ Some x → r ≡ Accepted (value.Block (f x b)) → t ≡ s → Turned f T n w s r t
+  turns_text : (x : Meaning) (m : List ℕ) (c : Block) (z : List ℕ) → w ≡ text m c z → find n s ≡ Some x → T m x.enc c z r → t ≡ s → Turned f T n w s r t
+
+abbrev pub Enciphers : List ℕ → Working → State → Answer → State → Type 0
+Enciphers = Turned (λ x. x.enc) Enciphered
+
+abbrev pub Deciphers : List ℕ → Working → State → Answer → State → Type 0
+Deciphers = Turned (λ x. x.dec) Deciphered
 
 pub data Codes (n : List ℕ) (s : State) (r : Answer) (t : State) : Type 0 where
   no_mode : (e : Refusal) → Unnamed n → r ≡ Refused e → number_of e ≡ 18 → t ≡ s → Codes n s r t

@@ -4,9 +4,9 @@
 --   find n s       what a name stands for, if it stands for something
 --   put n m s      the same state, but that n stands for m
 --   At n s i       the name n stands at place i of s
---   Shown s i n k  the i-th name is n, which stands for a cipher of kind k
+--   kinds s        the names, each with the kind of cipher that it stands for, in that order
 --   keyed_at n s   the keyed cipher that a name stands for, or why there is none
-use Rattle.std.specs.Prelude.{◌≡◌, ℕ, ◌<◌, cond, List, [], ◌∷◌, length, Some, None, Ok, Err, Option, Result, slice_index_or, slice_set}
+use Rattle.std.specs.Prelude.{◌≡◌, ℕ, ◌<◌, cond, List, [], ◌∷◌, map, length, Some, None, Ok, Err, Option, Result, slice_index_or, slice_set}
 use Rattle.std.specs.Str.{bytes_eq}
 use Rattle.chosen.specs.declared.Kind.{Kind}
 use Rattle.chosen.specs.declared.Kind.TheVariants.{Blowfish, Xtea, Triple}
@@ -36,9 +36,8 @@ pub record At (n : List ℕ) (s : State) (i : ℕ) : Type 0 where
   pub found : (d : List ℕ × Meaning) → find n s ≡ Some (slice_index_or s i d).1
   pub putting : (m : Meaning) → put n m s ≡ slice_set s i (n, m)
 
--- the name n is the one at place i, and stands for a cipher of kind k
-abbrev pub Shown : State → ℕ → List ℕ → Kind → Type 0
-Shown s i n k = (d : List ℕ × Meaning) → ((slice_index_or s i d).0 ≡ n) × ((slice_index_or s i d).1.kind ≡ k)
+abbrev pub kinds : State → List (List ℕ × Kind)
+kinds s = map (λ e. (e.0, e.1.kind)) s
 
 -- a triple is not keyed
 abbrev pub keyed_of : Kind → Meaning → Result Meaning Unreadable

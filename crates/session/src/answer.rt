@@ -1,7 +1,9 @@
 //! What a line of a script comes to.
-ghost use Rattle.std.specs.Prelude.{Some};
-ghost use Rattle.session.specs.Texts.{shown_answer};
+ghost use Rattle.std.specs.Prelude.{◌≡◌, Some};
+ghost use Rattle.session.specs.Answers.{answer_of};
+ghost use Rattle.session.specs.Texts.{shown_answer, shown_block};
 
+use crate::fault::Fault;
 use cipher::block::Block;
 use refusal::Refusal;
 use script::Unreadable;
@@ -9,20 +11,48 @@ use std::fmt;
 use std::str::from_utf8;
 
 /// What an accepted call answers. A text is given by the word that says its bytes.
-#[derive(Drop)]
+#[derive(PartialEq, Eq, Debug, Drop)]
 pub enum Value {
     Nothing,
     Code(u8),
     Block(Block),
-    Text(Block, Vec<u8>),
+    Text(Block, String),
 }
 
 /// A call is accepted with its value or refused; a line that is no call is unreadable.
-#[derive(Drop)]
+// beside the `Result` by which calls fail: whoever prints or counts asks once, and has a case for each
+#[derive(PartialEq, Eq, Debug, Drop)]
 pub enum Answer {
     Accepted(Value),
     Refused(Refusal),
     Unreadable(Unreadable),
+}
+
+impl From<Result<Value, Fault>> for Answer {
+    ghost from_gives = { λ r a. a ≡ answer_of r };
+
+    fn from(outcome: Result<Value, Fault>) -> Answer {
+        match outcome {
+            Ok(value) => Answer::Accepted(value),
+            Err(Fault::Refused(refusal)) => Answer::Refused(refusal),
+            Err(Fault::Unreadable(why)) => Answer::Unreadable(why),
+        }
+    }
+}
+
+/// A block as its sixteen digits.
+#[derive(Clone, Copy)]
+struct Digits(Block);
+
+impl fmt::Display for Digits {
+    ghost output = { λ d. Some (shown_block d.0) };
+
+    fn fmt<W: fmt::Write>(&self, f: &mut fmt::Formatter<W>) -> fmt::Result {
+        match from_utf8(&hex_digits::spell_block(self.0)) {
+            Ok(digits) => f.write_str(digits),
+            Err(_) => Err(fmt::Error),
+        }
+    }
 }
 
 /// `accepted` and the value, `refused` with number and reason, or `unreadable` and why.
@@ -33,19 +63,9 @@ impl fmt::Display for Answer {
         match self {
             Answer::Accepted(Value::Nothing) => f.write_str("accepted"),
             Answer::Accepted(Value::Code(code)) => write!(f, "accepted {code}"),
-            Answer::Accepted(Value::Block(block)) => {
-                let digits = hex_digits::spell_block(*block);
-                match from_utf8(&digits) {
-                    Ok(text) => write!(f, "accepted {text}"),
-                    Err(_) => Err(fmt::Error),
-                }
-            }
+            Answer::Accepted(Value::Block(block)) => write!(f, "accepted {}", Digits(*block)),
             Answer::Accepted(Value::Text(next, word)) => {
-                let digits = hex_digits::spell_block(*next);
-                match (from_utf8(&digits), from_utf8(word.as_slice())) {
-                    (Ok(next), Ok(text)) => write!(f, "accepted {next} {text}"),
-                    _ => Err(fmt::Error),
-                }
+                write!(f, "accepted {} {word}", Digits(*next))
             }
             Answer::Refused(refusal) => write!(f, "refused {refusal}"),
             Answer::Unreadable(why) => write!(f, "unreadable, {why}"),

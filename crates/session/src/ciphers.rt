@@ -1,21 +1,25 @@
 //! Ciphers under names, and the calls on them.
-ghost use Rattle.std.specs.Prelude.{◌≡◌, ◌<◌, ◌≤◌, [], ◌∷◌, ◌++◌, length, None, Ok, Err, MatchOption, MatchResult};
+ghost use Rattle.std.specs.Prelude.{◌≡◌, [], ◌∷◌, ◌++◌, Some, None, Ok, Err, MatchOption, MatchResult};
 ghost use Rattle.std.specs.Option.{option_map};
-ghost use Rattle.session.specs.State.{find, At, keyed_at, Shown};
-ghost use Rattle.chosen.specs.declared.Chosen.TheVariants.{One};
+ghost use Rattle.session.specs.State.{find, At, keyed_at, kinds};
+ghost use Rattle.cipher.specs.declared.one_of.OneOf.TheVariants.{First as One};
 ghost use Rattle.script.specs.Calls.{making, working, verb_of, args_of};
 ghost use Rattle.script.specs.Calls.Making.{triple};
 ghost use Rattle.script.specs.Words.{words};
-ghost use Rattle.session.specs.Views.{meaning, standing};
-ghost use Rattle.session.specs.Calls.{Makes, Loads, Enciphers, Deciphers, Codes, Tags, Does};
+ghost use Rattle.session.specs.Views.{meaning, standing, to_come};
+ghost use Rattle.session.specs.Answers.{answer_of};
+ghost use Rattle.session.specs.Calls.{Makes, Loads, ByMode, Turned, Codes, Tags, Does};
 ghost use Rattle.session.specs.Lines.{Heard};
 ghost use Rattle.session.specs.Performed.{Making, restood};
 
 use crate::answer::{Answer, Value};
 use crate::entry::Entry;
+use crate::fault::Fault;
+use crate::standing::Standing;
 use crate::texts;
-use chosen::{Chosen, Keyed, Kind};
-use cipher::{BlockCipher, KeyedCipher, Triple};
+use crate::way::{Deciphering, Enciphering, Way};
+use chosen::{Chosen, Keyed};
+use cipher::Triple;
 use script::{Call, Make, Unreadable, Work};
 use std::alloc::{AllocError, Global};
 
@@ -23,6 +27,7 @@ use std::alloc::{AllocError, Global};
 #[derive(Drop)]
 pub(crate) struct Ciphers {
     heap: Global,
+    // a list: what stands is told in this order, and a map that keeps it is no plainer
     entries: Vec<Entry>,
 }
 
@@ -41,12 +46,9 @@ impl Ciphers {
     fn position(&self, name: &[u8]) -> Option<usize>
         ensures { MatchOption result (find name.now (standing self.now) ≡ None) (λ i. At name.now (standing self.now) i) }
     {
-        for i in 0..self.entries.len() {
-            if self.entries[i].name.as_slice() == name {
-                return Some(i);
-            }
-        }
-        None
+        self.entries
+            .iter()
+            .position(|entry| entry.name.as_slice() == name)
     }
 
     /// The cipher that a name stands for, if it stands for one.
@@ -57,14 +59,22 @@ impl Ciphers {
         Some(&self.entries[i].cipher)
     }
 
+    /// The cipher that a name stands for, or that no cipher has the name.
+    fn cipher(&self, name: &[u8]) -> Result<&Chosen, Unreadable>
+        ensures { MatchResult result
+            (λ c. find name.now (standing self.now) ≡ Some (meaning c.now))
+            (λ u. (find name.now (standing self.now) ≡ None) × (u ≡ Unreadable.UnknownName)) }
+    {
+        self.named(name).ok_or(Unreadable::UnknownName)
+    }
+
     /// The keyed cipher that a name stands for, or why there is none.
     fn keyed(&self, name: &[u8]) -> Result<Keyed, Unreadable>
         ensures { MatchResult result (λ k. keyed_at name.now (standing self.now) ≡ Ok (meaning (One k))) (λ u. keyed_at name.now (standing self.now) ≡ Err u) }
     {
-        match self.named(name) {
-            None => Err(Unreadable::UnknownName),
-            Some(Chosen::One(keyed)) => Ok(*keyed),
-            Some(Chosen::Three(_)) => Err(Unreadable::NotKeyed),
+        match self.cipher(name)? {
+            Chosen::First(keyed) => Ok(*keyed),
+            Chosen::Second(_) => Err(Unreadable::NotKeyed),
         }
     }
 
@@ -75,7 +85,7 @@ impl Ciphers {
         let first = self.keyed(a)?;
         let second = self.keyed(b)?;
         let third = self.keyed(c)?;
-        Ok(Chosen::Three(Triple {
+        Ok(Chosen::Second(Triple {
             first,
             second,
             third,
@@ -87,8 +97,8 @@ impl Ciphers {
         ensures { Making (standing self.now) (making make.entry) result }
     {
         match make {
-            Make::Blowfish => Ok(Chosen::One(Keyed::blowfish())),
-            Make::Xtea => Ok(Chosen::One(Keyed::xtea())),
+            Make::Blowfish => Ok(Chosen::First(chosen::blowfish())),
+            Make::Xtea => Ok(Chosen::First(chosen::xtea())),
             Make::Triple(a, b, c) => self.triple(a, b, c),
         }
     }
@@ -105,20 +115,15 @@ impl Ciphers {
     }
 
     /// Makes a cipher under a new name.
-    fn make(&mut self, name: &[u8], make: Make<'_>) -> Answer
-        ensures { Makes name.now (making make.entry) (standing self.old) result (standing self.new) }
+    fn make(&mut self, name: &[u8], make: Make<'_>) -> Result<Value, Fault>
+        ensures { Makes name.now (making make.entry) (standing self.old) (answer_of result) (standing self.new) }
     {
-        if let Some(_) = self.named(name) {
-            return Answer::Unreadable(Unreadable::NameTaken);
+        if self.named(name).is_some() {
+            return Err(Fault::Unreadable(Unreadable::NameTaken));
         }
-        let cipher = match self.made(make) {
-            Ok(cipher) => cipher,
-            Err(why) => return Answer::Unreadable(why),
-        };
-        match self.join(name, cipher) {
-            Ok(()) => Answer::Accepted(Value::Nothing),
-            Err(_) => Answer::Unreadable(Unreadable::Memory),
-        }
+        let cipher = self.made(make)?;
+        self.join(name, cipher)?;
+        Ok(Value::Nothing)
     }
 
     /// Lets a name that stands for something stand for another cipher.
@@ -131,67 +136,42 @@ impl Ciphers {
     }
 
     /// Loads a key into the keyed cipher that a name stands for.
-    fn load(&mut self, name: &[u8], key: &[u8]) -> Answer
-        ensures { Loads name.now key.now (standing self.old) result (standing self.new) }
+    fn load(&mut self, name: &[u8], key: &[u8]) -> Result<Value, Fault>
+        ensures { Loads name.now key.now (standing self.old) (answer_of result) (standing self.new) }
     {
-        let mut cipher = match self.keyed(name) {
-            Ok(cipher) => cipher,
-            Err(why) => return Answer::Unreadable(why),
-        };
-        if let Err(refusal) = cipher.load_key(key) {
-            return Answer::Refused(refusal);
-        }
-        self.stand(name, Chosen::One(cipher));
-        Answer::Accepted(Value::Nothing)
+        let mut cipher = self.keyed(name)?;
+        chosen::load(&mut cipher, key)?;
+        self.stand(name, Chosen::First(cipher));
+        Ok(Value::Nothing)
     }
 
-    /// Enciphers a block or a text, by the cipher that a name stands for.
-    fn encipher(&self, name: &[u8], work: Work<'_>) -> Answer
-        ensures { Enciphers name.now (working work.entry) (standing self.now) result (standing self.now) }
+    /// A block or a text through the cipher that a name stands for, either way.
+    fn turned<W: Way>(&self, name: &[u8], work: Work<'_>) -> Result<Value, Fault>
+        ensures { Turned W.turns (ByMode W.relates) name.now (working work.entry) (standing self.now) (answer_of result) (standing self.now) }
     {
-        let Some(cipher) = self.named(name) else {
-            return Answer::Unreadable(Unreadable::UnknownName);
-        };
+        let cipher = self.cipher(name)?;
         match work {
-            Work::Block(block) => Answer::Accepted(Value::Block(cipher.encipher(block))),
-            Work::Text(mode, start, text) => texts::encipher(self.heap, cipher, mode, start, text),
-        }
-    }
-
-    /// Deciphers a block or a text, by the cipher that a name stands for.
-    fn decipher(&self, name: &[u8], work: Work<'_>) -> Answer
-        ensures { Deciphers name.now (working work.entry) (standing self.now) result (standing self.now) }
-    {
-        let Some(cipher) = self.named(name) else {
-            return Answer::Unreadable(Unreadable::UnknownName);
-        };
-        match work {
-            Work::Block(block) => Answer::Accepted(Value::Block(cipher.decipher(block))),
-            Work::Text(mode, start, text) => texts::decipher(self.heap, cipher, mode, start, text),
+            Work::Block(block) => Ok(Value::Block(W::block(cipher, block))),
+            Work::Text(mode, start, text) => {
+                texts::by_mode::<W>(self.heap, cipher, mode, start, text)
+            }
         }
     }
 
     /// The code of the mode of a name.
-    fn mode(&self, name: &[u8]) -> Answer
-        ensures { Codes name.now (standing self.now) result (standing self.now) }
+    fn mode(&self, name: &[u8]) -> Result<Value, Fault>
+        ensures { Codes name.now (standing self.now) (answer_of result) (standing self.now) }
     {
-        match texts::mode_named(name) {
-            Ok(mode) => Answer::Accepted(Value::Code(mode.code())),
-            Err(refusal) => Answer::Refused(refusal),
-        }
+        let mode = texts::mode_named(name)?;
+        Ok(Value::Code(mode.code()))
     }
 
     /// The tag of a text, by the cipher that a name stands for.
-    fn tag(&self, name: &[u8], text: &[u8]) -> Answer
-        ensures { Tags name.now text.now (standing self.now) result (standing self.now) }
+    fn tag(&self, name: &[u8], text: &[u8]) -> Result<Value, Fault>
+        ensures { Tags name.now text.now (standing self.now) (answer_of result) (standing self.now) }
     {
-        let Some(cipher) = self.named(name) else {
-            return Answer::Unreadable(Unreadable::UnknownName);
-        };
-        match modes::tag(cipher, text) {
-            Ok(tag) => Answer::Accepted(Value::Block(tag)),
-            Err(refusal) => Answer::Refused(refusal),
-        }
+        let cipher = self.cipher(name)?;
+        Ok(Value::Block(modes::tag(cipher, text)?))
     }
 
     /// Carries out the call that a line says. A line without words is passed over.
@@ -199,33 +179,31 @@ impl Ciphers {
         ensures { Heard (words line.now) (standing self.old) result (standing self.new) }
     {
         match script::read(self.heap, line) {
-            Ok(said) => Some(self.perform(said?)),
+            Ok(said) => Some(Answer::from(self.perform(said?))),
             Err(why) => Some(Answer::Unreadable(why)),
         }
     }
 
     /// Carries out a call.
-    fn perform(&mut self, call: Call<'_>) -> Answer
-        ensures { Does (verb_of call.entry) (args_of call.entry) (standing self.old) result (standing self.new) }
+    fn perform(&mut self, call: Call<'_>) -> Result<Value, Fault>
+        ensures { Does (verb_of call.entry) (args_of call.entry) (standing self.old) (answer_of result) (standing self.new) }
     {
         match call {
             Call::Cipher(name, make) => self.make(name, make),
             Call::Load(name, key) => self.load(name, key.as_slice()),
-            Call::Encipher(name, work) => self.encipher(name, work),
-            Call::Decipher(name, work) => self.decipher(name, work),
+            Call::Encipher(name, work) => self.turned::<Enciphering>(name, work),
+            Call::Decipher(name, work) => self.turned::<Deciphering>(name, work),
             Call::Mode(name) => self.mode(name),
             Call::Tag(name, text) => self.tag(name, text.as_slice()),
         }
     }
 
-    /// The name at a place and the kind of cipher that it stands for, if so many names were given.
-    pub(crate) fn entry(&self, i: usize) -> Option<(&[u8], Kind)>
-        ensures { MatchOption result (length (standing self.now) ≤ i) (λ x. (i < length (standing self.now)) × Shown (standing self.now) i x.0.now x.1) }
+    /// Each name and the kind of cipher that it stands for.
+    pub(crate) fn standing(&self) -> Standing<'_>
+        ensures { to_come result ≡ kinds (standing self.now) }
     {
-        if i >= self.entries.len() {
-            return None;
+        Standing {
+            entries: self.entries.as_slice(),
         }
-        let entry = &self.entries[i];
-        Some((entry.name.as_slice(), entry.cipher.kind()))
     }
 }

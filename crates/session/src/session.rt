@@ -1,14 +1,14 @@
 //! A session: the lines of one script, from the first on.
-ghost use Rattle.std.specs.Prelude.{◌≡◌, ◌<◌, ◌≤◌, [], length, MatchOption};
+ghost use Rattle.std.specs.Prelude.{◌≡◌, []};
 ghost use Rattle.script.specs.Words.{words};
 ghost use Rattle.session.specs.Lines.{Heeded, none};
-ghost use Rattle.session.specs.State.{Shown};
-ghost use Rattle.session.specs.Views.{standing};
+ghost use Rattle.session.specs.State.{kinds};
+ghost use Rattle.session.specs.Views.{standing, to_come};
 
 use crate::answer::Answer;
 use crate::ciphers::Ciphers;
+use crate::standing::Standing;
 use crate::tally::Tally;
-use chosen::Kind;
 use std::alloc::Global;
 
 /// What a script has come to so far.
@@ -26,11 +26,7 @@ impl Session {
     {
         Session {
             ciphers: Ciphers::new(heap),
-            tally: Tally {
-                accepted: 0,
-                refused: 0,
-                unreadable: 0,
-            },
+            tally: Tally::default(),
         }
     }
 
@@ -50,10 +46,10 @@ impl Session {
         &self.tally
     }
 
-    /// The i-th name that was given, and the kind of cipher that it stands for; none past the last.
-    pub fn cipher(&self, i: usize) -> Option<(&[u8], Kind)>
-        ensures { MatchOption result (length (standing self.now.ciphers) ≤ i) (λ x. (i < length (standing self.now.ciphers)) × Shown (standing self.now.ciphers) i x.0.now x.1) }
+    /// Each name that was given, and the kind of cipher that it stands for, in the order in which they were given.
+    pub fn ciphers(&self) -> Standing<'_>
+        ensures { to_come result ≡ kinds (standing self.now.ciphers) }
     {
-        self.ciphers.entry(i)
+        self.ciphers.standing()
     }
 }

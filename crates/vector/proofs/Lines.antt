@@ -1,6 +1,7 @@
 -- Which lines are vectors, and of which key and block.
-use Rattle.std.proofs.Common.{◌≡◌, ℕ, ◌+◌, ◌*◌, ◌<◌, ◌≤◌, List, ◌∷◌, ◌++◌, length, get_or, take, drop, sym, refl, ap, ◌∙◌, arith}
-use Rattle.std.proofs.lemmas.List.{length-append, take_at, drop_at, get_or_at, length-take-le, take-append-drop, drop_more}
+use Rattle.std.proofs.Common.{◌≡◌, Some, None, Result, Ok, Err, ℕ, ◌+◌, ◌*◌, List, ◌∷◌, ◌++◌, length, take, drop, sym, refl, ap, ◌∙◌, arith}
+use Rattle.std.proofs.lemmas.List.{length-append, take_at, drop_at}
+use Rattle.std.specs.Result.{result_ok}
 use Rattle.cipher.specs.declared.block.Block.{Block}
 use Rattle.cipher.specs.Bytes.{block_of, bytes_of}
 use Rattle.cipher.proofs.Bytes.{block_of-bytes_of}
@@ -16,19 +17,6 @@ parted_one n line a b c d p q =
       ap (drop 1) (sym (drop_at a (32 ∷ b) n p.0) ∙ ap (drop n) e ∙ drop_at c (32 ∷ d) n q.0),
     )
 
-pub whole_short : (n : ℕ) (line : List ℕ) → length line ≤ n → Whole n line
-whole_short n line h a b p = omega (arith, length-append a (32 ∷ b), ap length p.1, p.0)
-
-pub whole_other : (n : ℕ) (line : List ℕ) → (get_or line n 0 ≡ 32 → ⊥) → Whole n line
-whole_other n line h a b p = h (ap (λ xs. get_or xs n 0) p.1 ∙ get_or_at a 32 b 0 n p.0)
-
-pub parted_at : (n : ℕ) (line : List ℕ) → n < length line → get_or line n 0 ≡ 32 → Parted n line (take n line) (drop (n + 1) line)
-parted_at n line h e = (
-  length-take-le n line (omega arith),
-  sym (take-append-drop n line) ∙ ap (λ xs. take n line ++ xs) (drop_more line n 0 h)
-      ∙ ap (λ x. take n line ++ (x ∷ drop (n + 1) line)) e,
-)
-
 parts : (n : ℕ) (line key : List ℕ) (b : Block) → Vector n line key b → Parted (2 * n) line (spelled key) (spelled (bytes_of b))
 parts n line key b v = (length-spelled key ∙ ap (λ m. 2 * m) v.long, v.written)
 
@@ -42,6 +30,15 @@ foreign_block n line a ds p none key b v =
 pub foreign_key : (n : ℕ) (line ds b : List ℕ) → Parted (2 * n) line ds b → Unspelt n ds → Foreign n line
 foreign_key n line ds b p none key x v =
     none key v.bytes v.long (parted_one (2 * n) line _ _ _ _ (parts n line key x v) p).0
+
+-- a call that answers something succeeded with it, and one that answers nothing was refused
+pub succeeded : {A E : Type 0} (r : Result A E) (x : A) → Some x ≡ result_ok r → r ≡ Ok x
+succeeded (Ok y) x e = cc
+succeeded (Err y) x e = cc
+
+pub refused : {A E : Type 0} (r : Result A E) → None ≡ result_ok r → (d : E) × (r ≡ Err d)
+refused (Ok y) e = cc
+refused (Err y) e = (y, refl)
 
 pub serves_foreign : (E : List ℕ → Block → Block) (n : ℕ) (line : List ℕ) → Foreign n line → Serves E n line hyphen
 serves_foreign E n line f = record { ciphertext = λ key b v. absurd (f key b v); other = λ _. refl }

@@ -3,16 +3,13 @@
 //! Public: `answer`, and `Reply` with `bytes`.
 #![tactic(auto)]
 
-ghost use Rattle.std.specs.Prelude.{◌≡◌, ◌≤◌, length, MatchOption};
-ghost use Rattle.cipher.specs.Bytes.{bytes_of};
-ghost use Rattle.hex_digits.specs.Digits.{spelled};
+ghost use Rattle.std.specs.Prelude.{◌≤◌, MatchOption};
 ghost use Rattle.vector.specs.Lines.{Parted, Whole, Serves, Answered};
-ghost use Rattle.vector.specs.Replies.{reply_bytes};
+ghost use Rattle.vector.specs.Replies.{reply_bytes, digits_or_hyphen};
 
 mod reply;
 
 use blowfish::Blowfish;
-use cipher::block::Block;
 use cipher::{KeyedCipher, encipher_under};
 pub use reply::Reply;
 use xtea::Xtea;
@@ -25,9 +22,9 @@ pub fn answer(line: &[u8]) -> Reply
     ensures { Answered line.now (reply_bytes result) }
 {
     if line.len() == BLOWFISH_LINE {
-        under(&mut Blowfish::new(), &mut [0; 8], line)
+        Reply::from(under::<_, 8>(&mut Blowfish::new(), line))
     } else {
-        under(&mut Xtea::new(), &mut [0; 16], line)
+        Reply::from(under::<_, 16>(&mut Xtea::new(), line))
     }
 }
 
@@ -35,39 +32,22 @@ pub fn answer(line: &[u8]) -> Reply
 fn parted(line: &[u8], digits: usize) -> Option<(&[u8], &[u8])>
     ensures { MatchOption result (Whole digits line.now) (λ x. Parted digits line.now x.0.now x.1.now) }
 {
-    if line.len() <= digits {
+    let (front, [b' ', rest @ ..]) = line.split_at_checked(digits)? else {
         return None;
-    }
-    if line[digits] != b' ' {
-        return None;
-    }
-    Some((&line[0..digits], &line[digits + 1..]))
+    };
+    Some((front, rest))
 }
 
-/// The answer by one keyed cipher, which takes keys of just so many bytes as `key` holds.
-fn under<K: KeyedCipher>(cipher: &mut K, key: &mut [u8], line: &[u8]) -> Reply
-    requires few { length key.old ≤ 56 }
-    requires taken { K.KeyedCipher.takes cipher.old (length key.old) }
-    ensures { Serves (K.KeyedCipher.enc_under cipher.old) (length key.old) line.now (reply_bytes result) }
+/// The digits of the ciphertext by one keyed cipher, which takes keys of `N` bytes.
+fn under<K: KeyedCipher, const N: usize>(cipher: &mut K, line: &[u8]) -> Option<[u8; 16]>
+    requires few { N ≤ 56 }
+    requires taken { K.KeyedCipher.takes cipher.old N }
+    ensures { Serves (K.KeyedCipher.enc_under cipher.old) N line.now (digits_or_hyphen result) }
 {
-    let Some((digits, text)) = parted(line, 2 * key.len()) else {
-        return Reply::Hyphen;
-    };
-    let Some(block) = hex_digits::read_block(text) else {
-        return Reply::Hyphen;
-    };
-    if !hex_digits::read(digits, key) {
-        return Reply::Hyphen;
-    }
-    match encipher_under(cipher, key, block) {
-        Ok(enciphered) => ciphertext(enciphered),
-        Err(_) => Reply::Hyphen,
-    }
-}
-
-/// The digits of an enciphered block.
-fn ciphertext(block: Block) -> Reply
-    ensures { reply_bytes result ≡ spelled (bytes_of block) }
-{
-    Reply::Ciphertext(hex_digits::spell_block(block))
+    let (digits, text) = parted(line, 2 * N)?;
+    let block = hex_digits::read_block(text)?;
+    let mut key = [0; N];
+    hex_digits::read(digits, &mut key).ok()?;
+    let enciphered = encipher_under(cipher, &key, block).ok()?;
+    Some(hex_digits::spell_block(enciphered))
 }

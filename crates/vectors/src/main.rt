@@ -8,6 +8,7 @@ fn main(rt: HostRuntime) -> io::Result<()> {
     let mut input = BufReader::new(rt.alloc(), rt.stdin())?;
     let mut output = BufWriter::new(rt.alloc(), rt.stdout())?;
     let mut line = Vec::new(rt.alloc());
+    // counted, so that the loop ends; one buffer serves every line
     for _ in 0..u64::MAX {
         line.clear();
         let _ = input.read_until(b'\n', &mut line)?;

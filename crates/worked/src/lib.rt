@@ -7,16 +7,12 @@ ghost use Rattle.std.specs.Prelude.{◌≡◌};
 ghost use Rattle.worked.specs.RulesTable.{RulesTable};
 ghost use Rattle.worked.specs.Table.{Table};
 
+// A function for each table: each counts its own rows, so that a row left out is seen.
+
 /// The rows of the table hold; it answers how many there are.
 pub fn rows() -> u8
     ensures table { Table }
     ensures count { result ≡ 6 }
-{
-    count()
-}
-
-fn count() -> u8
-    ensures { result ≡ 6 }
 {
     6
 }
@@ -25,12 +21,6 @@ fn count() -> u8
 pub fn rules_rows() -> u8
     ensures table { RulesTable }
     ensures count { result ≡ 14 }
-{
-    rules_count()
-}
-
-fn rules_count() -> u8
-    ensures { result ≡ 14 }
 {
     14
 }

@@ -3,40 +3,37 @@
 //! Public: `Xtea`, with `new`, and the calls of `BlockCipher` and `KeyedCipher`.
 #![tactic(auto)]
 
-ghost use Rattle.std.specs.Prelude.{◌≡◌, ◌+◌, ◌≤◌, length, replicate};
-ghost use Rattle.cipher.specs.Bytes.{word_at};
-ghost use Rattle.cipher.specs.Eights.{each_of_eight};
-ghost use Rattle.cipher.specs.declared.block.Eight.{Eight as Blocks};
-ghost use Rattle.xtea.specs.Lanes.{lefts, rights};
-ghost use Rattle.xtea.specs.Xtea.{mixed, left_word_of, right_word_of, cycled, uncycled, cycles as cycles_of, uncycles as uncycles_of, enciphered, deciphered, key_words};
+ghost use Rattle.std.specs.Prelude.{◌≡◌, ℕ, ◌<◌, replicate};
+ghost use Rattle.xtea.specs.Lanes.{in_lane};
+ghost use Rattle.xtea.specs.Xtea.{left_word_of, right_word_of, cycled, uncycled, sum_at as begins_at, enciphered, deciphered, key_words};
 ghost use Rattle.xtea.specs.Cycles;
 
-mod lanes;
+mod halves;
+mod words;
 
-use cipher::block::{Block, Eight};
+use cipher::block::Block;
 use cipher::{BlockCipher, KeyedCipher};
-use lanes::{Halves, joined, mix_eight, parted};
+use halves::Halves;
 use refusal::Refusal;
-use std::simd::prelude::*;
+use words::{Word, mix};
 
 /// What the sum grows by in each cycle: the golden section, as a word.
 const DELTA: u32 = 0x9E3779B9;
 
 const CYCLES: u32 = 32;
 
-const KEY_LENGTH: usize = 16;
-
-/// XTEA under the key that was loaded last; under sixteen zero bytes before any load.
-#[derive(Clone, Copy)]
-pub struct Xtea {
-    key: [u32; 4],
+/// The sum at which a cycle begins.
+#[tactic(auto, using(crate::specs::Cycles::sum_at_is))]
+fn sum_at(cycle: u32) -> u32
+    ensures { result ≡ begins_at cycle }
+{
+    DELTA.wrapping_mul(cycle)
 }
 
-/// m of a word.
-fn mix(word: u32) -> u32
-    ensures { result ≡ mixed word }
-{
-    ((word << 4) ^ (word >> 5)).wrapping_add(word)
+/// XTEA under the key that was loaded last; under sixteen zero bytes before any load.
+#[derive(Clone, Copy, PartialEq, Eq)]
+pub struct Xtea {
+    key: [u32; 4],
 }
 
 impl Xtea {
@@ -62,98 +59,58 @@ impl Xtea {
         next.wrapping_add(self.key[((next >> 11) % 4) as usize])
     }
 
-    /// One cycle, which begins at `sum`.
-    fn cycle(&self, sum: u32, block: Block) -> Block
-        ensures { result ≡ cycled self.now.key sum block }
+    /// One cycle, which begins at `sum`, of the block in each lane.
+    #[tactic(auto, unfolding(crate::specs::Xtea::cycled))]
+    fn cycle<W: Word>(&self, sum: u32, halves: Halves<W>) -> Halves<W>
+        ensures { (k : ℕ) → k < W.lanes
+            → in_lane W.lane result k ≡ cycled self.now.key sum (in_lane W.lane halves k) }
     {
-        let left = block
+        let left = halves
             .left
-            .wrapping_add(mix(block.right) ^ self.left_word(sum));
-        let right = block.right.wrapping_add(mix(left) ^ self.right_word(sum));
-        Block { left, right }
+            .plus(mix(halves.right).xor(W::splat(self.left_word(sum))));
+        let right = halves
+            .right
+            .plus(mix(left).xor(W::splat(self.right_word(sum))));
+        Halves { left, right }
     }
 
     /// The cycle that began at `sum`, undone.
-    fn uncycle(&self, sum: u32, block: Block) -> Block
-        ensures { result ≡ uncycled self.now.key sum block }
+    #[tactic(auto, unfolding(crate::specs::Xtea::uncycled))]
+    fn uncycle<W: Word>(&self, sum: u32, halves: Halves<W>) -> Halves<W>
+        ensures { (k : ℕ) → k < W.lanes
+            → in_lane W.lane result k ≡ uncycled self.now.key sum (in_lane W.lane halves k) }
     {
-        let right = block
+        let right = halves
             .right
-            .wrapping_sub(mix(block.left) ^ self.right_word(sum));
-        let left = block.left.wrapping_sub(mix(right) ^ self.left_word(sum));
-        Block { left, right }
-    }
-
-    /// The first `n` cycles.
-    fn cycles(&self, n: u32, block: Block) -> Block
-        ensures { result ≡ cycles_of self.now.key n block }
-    {
-        let mut x = block;
-        let mut sum: u32 = 0;
-        for i in 0..n {
-            x = self.cycle(sum, x);
-            sum = sum.wrapping_add(DELTA);
-        }
-        x
-    }
-
-    /// The first `n` cycles undone, the last of them first.
-    fn uncycles(&self, n: u32, block: Block) -> Block
-        ensures { result ≡ uncycles_of self.now.key n block }
-    {
-        let mut x = block;
-        let mut sum = DELTA.wrapping_mul(n);
-        for i in 0..n {
-            sum = sum.wrapping_sub(DELTA);
-            x = self.uncycle(sum, x);
-        }
-        x
-    }
-
-    /// One cycle of eight blocks.
-    fn cycle_eight(&self, sum: u32, halves: Halves) -> Halves
-        ensures { (x : Blocks) → halves.left ≡ lefts x → halves.right ≡ rights x
-            → (result.left ≡ lefts (each_of_eight (cycled self.now.key sum) x)) × (result.right ≡ rights (each_of_eight (cycled self.now.key sum) x)) }
-    {
-        let left = halves.left + (mix_eight(halves.right) ^ u32x8::splat(self.left_word(sum)));
-        let right = halves.right + (mix_eight(left) ^ u32x8::splat(self.right_word(sum)));
+            .minus(mix(halves.left).xor(W::splat(self.right_word(sum))));
+        let left = halves
+            .left
+            .minus(mix(right).xor(W::splat(self.left_word(sum))));
         Halves { left, right }
     }
 
-    /// One cycle of eight blocks undone.
-    fn uncycle_eight(&self, sum: u32, halves: Halves) -> Halves
-        ensures { (x : Blocks) → halves.left ≡ lefts x → halves.right ≡ rights x
-            → (result.left ≡ lefts (each_of_eight (uncycled self.now.key sum) x)) × (result.right ≡ rights (each_of_eight (uncycled self.now.key sum) x)) }
+    /// All cycles.
+    #[tactic(auto, unfolding(crate::specs::Xtea::cycles))]
+    fn cycles<W: Word>(&self, mut halves: Halves<W>) -> Halves<W>
+        ensures { (k : ℕ) → k < W.lanes
+            → in_lane W.lane result k ≡ enciphered self.now.key (in_lane W.lane halves k) }
     {
-        let right = halves.right - (mix_eight(halves.left) ^ u32x8::splat(self.right_word(sum)));
-        let left = halves.left - (mix_eight(right) ^ u32x8::splat(self.left_word(sum)));
-        Halves { left, right }
+        for i in 0..CYCLES {
+            halves = self.cycle(sum_at(i), halves);
+        }
+        halves
     }
 
-    /// The first `n` cycles of eight blocks.
-    fn cycles_eight(&self, n: u32, blocks: Eight) -> Eight
-        ensures { result ≡ each_of_eight (cycles_of self.now.key n) blocks }
+    /// All cycles undone, the last of them first.
+    #[tactic(auto, unfolding(crate::specs::Xtea::uncycles))]
+    fn uncycles<W: Word>(&self, mut halves: Halves<W>) -> Halves<W>
+        ensures { (k : ℕ) → k < W.lanes
+            → in_lane W.lane result k ≡ deciphered self.now.key (in_lane W.lane halves k) }
     {
-        let mut halves = parted(blocks);
-        let mut sum: u32 = 0;
-        for i in 0..n {
-            halves = self.cycle_eight(sum, halves);
-            sum = sum.wrapping_add(DELTA);
+        for i in (0..CYCLES).rev() {
+            halves = self.uncycle(sum_at(i), halves);
         }
-        joined(halves)
-    }
-
-    /// The first `n` cycles of eight blocks undone.
-    fn uncycles_eight(&self, n: u32, blocks: Eight) -> Eight
-        ensures { result ≡ each_of_eight (uncycles_of self.now.key n) blocks }
-    {
-        let mut halves = parted(blocks);
-        let mut sum = DELTA.wrapping_mul(n);
-        for i in 0..n {
-            sum = sum.wrapping_sub(DELTA);
-            halves = self.uncycle_eight(sum, halves);
-        }
-        joined(halves)
+        halves
     }
 }
 
@@ -165,28 +122,20 @@ impl BlockCipher for Xtea {
     ghost inverse = { λ c. Cycles.inverse c.key };
 
     fn encipher(&self, block: Block) -> Block {
-        self.cycles(CYCLES, block)
+        self.cycles(Halves::from(block)).into()
     }
 
     fn decipher(&self, block: Block) -> Block {
-        self.uncycles(CYCLES, block)
+        self.uncycles(Halves::from(block)).into()
     }
 
-    fn encipher_eight(&self, blocks: Eight) -> Eight {
-        self.cycles_eight(CYCLES, blocks)
+    fn encipher_eight(&self, blocks: [Block; 8]) -> [Block; 8] {
+        self.cycles(Halves::from(blocks)).into()
     }
 
-    fn decipher_eight(&self, blocks: Eight) -> Eight {
-        self.uncycles_eight(CYCLES, blocks)
+    fn decipher_eight(&self, blocks: [Block; 8]) -> [Block; 8] {
+        self.uncycles(Halves::from(blocks)).into()
     }
-}
-
-/// The word at the four bytes of `key` from `at` on, the first byte highest.
-fn word(key: &[u8], at: usize) -> u32
-    requires { at + 4 ≤ length key.now }
-    ensures { result ≡ word_at key.now at }
-{
-    u32::from_be_bytes([key[at], key[at + 1], key[at + 2], key[at + 3]])
 }
 
 impl KeyedCipher for Xtea {
@@ -197,10 +146,11 @@ impl KeyedCipher for Xtea {
     ghost dec_under = { λ _ key. deciphered (key_words key) };
 
     fn load_key(&mut self, key: &[u8]) -> Result<(), Refusal> {
-        if key.len() != KEY_LENGTH {
+        // four words, and no byte after them
+        let (&[a, b, c, d], []) = key.as_chunks::<4>() else {
             return Err(Refusal::KeyLength);
-        }
-        self.key = [word(key, 0), word(key, 4), word(key, 8), word(key, 12)];
+        };
+        self.key = [a, b, c, d].map(u32::from_be_bytes);
         Ok(())
     }
 }

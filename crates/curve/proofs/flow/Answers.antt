@@ -1,35 +1,25 @@
-use Rattle.std.proofs.Common.{◌≡◌, ◌-◌, refl, subst, arith, w32, to_z, of_z}
+use Rattle.std.proofs.Common.{◌≡◌, ◌+◌, get_or, pos, to_z, of_z, w32, rules}
 use Rattle.std.proofs.lemmas.Int.{to_z-of_z}
-use Rattle.std.proofs.lemmas.Bool.{both_ways}
-use Rattle.curve.specs.Answers.{HoldsAt}
+use Rattle.curve.specs.Answers.{Holds}
 use Rattle.curve.specs.Curves.{pair, flow_between}
-use Rattle.curve.proofs.Finding.{NoneBelow, none_more, answered, none_all, not_covered}
+use Rattle.curve.proofs.Finding.{HoldsFrom, answered}
+use Rattle.curve.proofs.Windows.{of_two, first_is}
 use Rattle.curve.proofs.flow.Goals as goal
-
-pub returns-then-holds : goal.returns-then-holds
-returns-then-holds c =
-    let ss = c.args.stages.now in
-    let qs = c.args.flows.now in
-    let i = c.loop-i.i in
-    let s = c.args.stage in
-    let e : to_z w32 (of_z w32 s) ≡ s = to_z-of_z w32 s c.ranges.stage in
-    let below : NoneBelow ss qs s i = subst (λ x. NoneBelow ss qs x i) e c.loop-i.invariant in
-    let at : HoldsAt ss s i = subst (λ x. HoldsAt ss x i) e (c.if-holds.ensures.0 refl) in
-    let v = subst (λ x. c.flow_by.result ≡ flow_between (pair ss qs (i - 1)) (pair ss qs i) x) e c.flow_by.ensures in
-    let a = answered ss qs s i (omega arith) (omega arith) (omega arith) below at c.flow_by.result v in
-    record { first = a.first; lawful = a.lawful }
-
-pub loop-i-preserved : goal.loop-i-preserved
-loop-i-preserved c =
-    none_more c.args.stages.now c.args.flows.now (to_z w32 (of_z w32 c.args.stage)) c.loop-i.i (omega arith) (omega arith) (omega arith) c.loop-i.invariant
-    (λ h. both_ways _ c.if-holds.false (c.holds.ensures.1 h))
 
 pub returns : goal.returns
 returns c =
     let ss = c.args.stages.now in
     let qs = c.args.flows.now in
-    let s = c.args.stage in
-    let e : to_z w32 (of_z w32 s) ≡ s = to_z-of_z w32 s c.ranges.stage in
-    let below : NoneBelow ss qs s c.loop-i.i = subst (λ x. NoneBelow ss qs x c.loop-i.i) e c.loop-i.invariant in
-    let none = none_all ss qs s c.loop-i.i (omega arith) below in
-    record { first = none; lawful = not_covered ss qs s none }
+    let x = c.args.stage in
+    let a = c.find_map.ensures.runs in
+    let b = c.zip.ensures.runs a.0 a.0.seen a.1 in
+    let s = of_two b.0 ss _ _ (c.array_windows-stage_pairs.ensures.runs b.0 b.0.seen) (cc b.1) (cc b.1) in
+    let q = of_two b.2.0 qs _ _ (c.array_windows-flow_pairs.ensures.runs b.2.0 b.2.0.seen) (cc b.2.1) (cc b.2.1) in
+    let e : to_z w32 (of_z w32 x) ≡ x = to_z-of_z w32 x c.ranges.stage in
+    let f = first_is a.0 b.0 b.2.0 ss qs b.2.2 s q (pos 0) (λ k. HoldsFrom ss qs x k → ⊥) _
+    (λ k w l r h. let g : Holds (get_or w.0.now 0 (pos 0)) (get_or w.0.now 1 (pos 0)) (to_z w32 (of_z w32 x)) → ⊥ = search rules in rw (l.here, l.next, e) at g)
+    _ (λ k y. HoldsFrom ss qs x k × (y ≡ flow_between (pair ss qs k) (pair ss qs (k + 1)) x))
+    (λ k w y l r h. let g : Holds (get_or w.0.now 0 (pos 0)) (get_or w.0.now 1 (pos 0)) (to_z w32 (of_z w32 x)) × (y ≡ flow_between (record { stage = get_or w.0.now 0 (pos 0); flow = get_or w.1.now 0 0 }) (record { stage = get_or w.0.now 1 (pos 0); flow = get_or w.1.now 1 0 }) (to_z w32 (of_z w32 x))) = search rules in rw (l.here, l.next, r.here, r.next, e) at g)
+    (λ x y f e. search rules) c.find_map.result a.2 in
+    let d = answered ss qs x c.find_map.result f in
+    record { first = d.first; lawful = d.lawful }

@@ -1,19 +1,13 @@
-use Rattle.std.proofs.Common.{[], ◌∷◌, ap, ◌∙◌, arith}
-use Rattle.std.proofs.lemmas.List.{take_all}
-use Rattle.std.proofs.lemmas.Slice.{pushed}
+use Rattle.std.proofs.Common.{arith}
 use Rattle.hex_digits.specs.Digits.{spelled}
-use Rattle.hex_digits.proofs.Spelling.{spelled-more}
+use Rattle.hex_digits.proofs.Spelling.{spell_more}
 use Rattle.hex_digits.proofs.spell.Goals as goal
 
 pub loop-byte-init : goal.loop-byte-init
 unfolding spelled
-loop-byte-init c = c.new-digits.ensures.items
+loop-byte-init c = c.new-digits.ensures.bytes
 
 pub loop-byte-preserved : goal.loop-byte-preserved
 loop-byte-preserved c =
-    let one = pushed (_ ∷ []) c.loop-byte.invariant c.in_ok-push.was c.push.ensures.items in
-    let two = pushed (_ ∷ []) one c.in_ok-push-2.was c.push-in-loop-byte.ensures.items in
-    two ∙ spelled-more c.args.bytes.now c.loop-byte.byte-index _ _ (omega arith) c.digit.ensures c.digit-in-loop-byte.ensures
-
-pub returns : goal.returns
-returns c = c.loop-byte.invariant ∙ ap spelled (take_all c.loop-byte.byte-index c.args.bytes.now (omega arith))
+    spell_more c.args.bytes.now c.loop-byte.byte-index _ _ _ _ _ _ _ _ (omega arith) (omega arith) c.digits_of.ensures c.from.ensures c.from-in-loop-byte.ensures c.loop-byte.invariant
+    c.in_ok-push.ensures.bytes c.in_ok-push.ensures.ascii c.in_ok-push-2.ensures.bytes c.in_ok-push-2.ensures.ascii

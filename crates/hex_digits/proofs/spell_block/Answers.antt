@@ -1,23 +1,17 @@
-use Rattle.std.proofs.Common.{◌≡◌, ◌*◌, length, sym, refl, ap, ◌∙◌, arith}
-use Rattle.std.proofs.lemmas.List.{take_all, length-set}
+use Rattle.std.proofs.Common.{◌∙◌, sym, ap, length, get_or, ◌/◌, ◌%◌, [], ◌∷◌, ◌≡◌, ◌<◌, arith, rules, ◌*◌}
+use Rattle.std.proofs.lemmas.Grind.{same_number_lists}
 use Rattle.hex_digits.specs.Digits.{spelled}
-use Rattle.hex_digits.proofs.Spelling.{spell_more}
+use Rattle.hex_digits.proofs.Spelling.{length-spelled, spelled_at}
 use Rattle.hex_digits.proofs.spell_block.Goals as goal
-
-pub loop-i-preserved : goal.loop-i-preserved
-loop-i-preserved c =
-    let b : length c.to_bytes-bytes.result ≡ 8 = ap length c.to_bytes-bytes.ensures.value in (
-      simp length-set c.loop-i.invariant.0,
-      spell_more c.to_bytes-bytes.result c.loop-i.digits c.loop-i.i _ _ (omega arith) (omega arith)
-          c.digit.ensures c.digit-in-loop-i.ensures c.loop-i.invariant.1,
-    )
 
 pub returns : goal.returns
 returns c =
-    let b : length c.to_bytes-bytes.result ≡ 8 = ap length c.to_bytes-bytes.ensures.value in
-    sym (take_all (2 * c.loop-i.i) c.loop-i.digits (omega arith)) ∙ c.loop-i.invariant.1
-    ∙ ap spelled (take_all c.loop-i.i c.to_bytes-bytes.result (omega arith)) ∙ ap spelled c.to_bytes-bytes.ensures.value
-
-pub loop-i-init : goal.loop-i-init
-unfolding spelled
-loop-i-init c = (refl, refl)
+    let b = c.into-bytes.result in
+    let l = length-spelled b ∙ ap (λ n. 2 * n) (ap length c.into-bytes.ensures.0) in
+    same_number_lists c.from_fn.result (spelled b) (c.from_fn.ensures.items.long ∙ sym l)
+    (λ k h.
+    let i : k < 16 = omega (arith, h, c.from_fn.ensures.items.long) in
+    let t = c.from_fn.ensures.items.at k 0 i in
+    let u : get_or c.from_fn.result k 0 ≡ get_or (spelled (get_or b (k / 2) 0 ∷ [])) (k % 2) 0 = search (rules, t.2) in
+    u ∙ spelled_at b k (omega (arith, h, c.from_fn.ensures.items.long, l)))
+    ∙ ap spelled c.into-bytes.ensures.0

@@ -7,17 +7,14 @@ use Rattle.xtea.specs.Xtea as xtea
 use Rattle.xtea.specs.Xtea.{cycled}
 use Rattle.worked.proofs.rows.Goals as goal
 
-pub returns : goal.returns
+pub returns-clause-table : goal.returns-clause-table
 unfolding cycled xtea.cycles blowfish.enciphering odd_round even_round initial scheduled filled filled_p filled_box step_p step_s mixed mix_word
-returns c =
+returns-clause-table c =
     record {
-      table = record {
-        words_of_a_key = (refl, refl, refl);
-        f_of_words = refl;
-        first_cycle = refl;
-        xtea_vector = refl;
-        blowfish_vector = refl;
-        top_bit_doubled = refl;
-      };
-      count = c.count.ensures;
+      words_of_a_key = (refl, refl, refl);
+      f_of_words = refl;
+      first_cycle = refl;
+      xtea_vector = refl;
+      blowfish_vector = refl;
+      top_bit_doubled = refl;
     }

@@ -4,4 +4,4 @@ use Rattle.modes.proofs.buffer.write_block.Goals as goal
 
 pub returns : goal.returns
 returns c =
-    put-block c.args.buffer.now _ c.args.at _ c.args.block (omega arith) (c.copy_from_slice.ensures.after ∙ c.to_bytes.ensures.value)
+    put-block c.args.buffer.now _ c.args.at _ c.args.block (omega arith) (c.copy_from_slice.ensures.after ∙ c.into-bytes.ensures.0)

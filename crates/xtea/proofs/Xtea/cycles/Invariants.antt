@@ -1,6 +1,10 @@
-use Rattle.std.proofs.Common.{◌≡◌}
-use Rattle.xtea.specs.Xtea.{cycles, sum_at}
+use Rattle.std.proofs.Common.{◌≡◌, ℕ, ◌<◌}
+use Rattle.xtea.specs.Lanes.{in_lane}
+use Rattle.xtea.specs.Xtea.{cycles}
 use Rattle.xtea.proofs.Xtea.cycles.Given as goal
 
 abbrev pub invariant-loop-i : goal.invariant-loop-i
-invariant-loop-i l = (l.x ≡ cycles l.self.key l.i l.initial.x) × (l.sum ≡ sum_at l.i)
+invariant-loop-i g l =
+    (k : ℕ) → k < g.W.Word.lanes
+    → in_lane g.W.Word.lane l.halves k
+    ≡ cycles l.self.key l.i (in_lane g.W.Word.lane l.initial.halves k)

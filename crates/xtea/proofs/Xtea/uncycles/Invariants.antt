@@ -1,7 +1,11 @@
-use Rattle.std.proofs.Common.{◌≡◌, ◌-◌}
-use Rattle.xtea.specs.Xtea.{uncycles, sum_at}
+use Rattle.std.proofs.Common.{◌≡◌, ℕ, ◌<◌}
+use Rattle.xtea.specs.Lanes.{in_lane}
+use Rattle.xtea.specs.Xtea.{uncycles}
 use Rattle.xtea.proofs.Xtea.uncycles.Given as goal
 
+-- what is left to undo gives what undoing all gave at first
 abbrev pub invariant-loop-i : goal.invariant-loop-i
-invariant-loop-i l =
-    (uncycles l.self.key (l.n - l.i) l.x ≡ uncycles l.self.key l.n l.initial.x) × (l.sum ≡ sum_at (l.n - l.i))
+invariant-loop-i g l =
+    (k : ℕ) → k < g.W.Word.lanes
+    → uncycles l.self.key l.i (in_lane g.W.Word.lane l.halves k)
+    ≡ uncycles l.self.key 32 (in_lane g.W.Word.lane l.initial.halves k)

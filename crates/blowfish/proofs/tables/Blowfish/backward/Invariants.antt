@@ -1,7 +1,11 @@
-use Rattle.std.proofs.Common.{◌≡◌}
+use Rattle.std.proofs.Common.{◌≡◌, ◌≤◌, map, length, take}
 use Rattle.cipher.specs.Rounds.{unrounds}
-use Rattle.blowfish.specs.Blowfish.{pair_back}
+use Rattle.blowfish.specs.Blowfish.{pair_back, deciphered}
 use Rattle.blowfish.proofs.tables.Blowfish.backward.Given as goal
 
-abbrev pub invariant-loop-j : goal.invariant-loop-j
-invariant-loop-j l = unrounds (pair_back l.self) l.j l.x ≡ unrounds (pair_back l.self) l.n l.initial.x
+abbrev pub invariant-loop-odd : goal.invariant-loop-odd
+invariant-loop-odd g l =
+    (l.odd-iterator.iter.rest.now ≡ take (length l.odd-iterator.iter.rest.now) l.self.p)
+    × (length l.odd-iterator.iter.rest.now ≤ 8)
+    × (length l.blocks ≡ length l.fn.blocks)
+    × (map (unrounds (pair_back l.self) (length l.odd-iterator.iter.rest.now)) l.blocks ≡ map (deciphered l.self) l.fn.blocks)

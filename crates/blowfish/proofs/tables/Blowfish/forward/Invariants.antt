@@ -1,7 +1,6 @@
-use Rattle.std.proofs.Common.{◌≡◌}
-use Rattle.cipher.specs.Rounds.{rounds}
-use Rattle.blowfish.specs.Blowfish.{turned}
+use Rattle.std.proofs.Common.{◌≡◌, map}
+use Rattle.blowfish.proofs.Turns.{gone}
 use Rattle.blowfish.proofs.tables.Blowfish.forward.Given as goal
 
-abbrev pub invariant-loop-i : goal.invariant-loop-i
-invariant-loop-i l = l.x ≡ rounds (turned l.self) l.i l.initial.x
+abbrev pub invariant-loop-odd : goal.invariant-loop-odd
+invariant-loop-odd g l = l.blocks ≡ map (gone l.self l.odd-index) l.fn.blocks

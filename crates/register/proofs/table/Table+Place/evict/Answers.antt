@@ -2,7 +2,7 @@ use Rattle.std.proofs.Common.{length, refl, ap, ◌∙◌}
 use Rattle.std.proofs.lemmas.List.{length-set}
 use Rattle.register.proofs.Changes.{held-some}
 use Rattle.register.proofs.Held.{nowhere_held}
-use Rattle.register.proofs.Laws.{freed_here, freed_others, freed_once, freed_free, freed_stays, levels_set, counts_set}
+use Rattle.register.proofs.Laws.{freed_here, freed_others, freed_once, freed_free, freed_stays}
 use Rattle.register.proofs.table.Table+Place.evict.Goals as goal
 
 pub returns-in-Some : goal.returns-in-Some
@@ -20,13 +20,11 @@ returns-in-Some c =
       long = ap length e ∙ simp length-set;
       freed = rw e (freed_free ps i n o.0 b o.2 c.requires.apart);
       stays = rw e (freed_stays ps i n o.0 b o.2);
-      levels = rw e (levels_set ps i o.0 o.3 o.4 o.5);
-      counts = rw e (counts_set ps i o.0 o.3);
     }
 
-pub returns-in-None : goal.returns-in-None
-returns-in-None c =
-    let none = nowhere_held c.args.self.now.places c.args.number c.requires.whole c.in-None.ensures in
+pub returns-in_default : goal.returns-in_default
+returns-in_default c =
+    let none = nowhere_held c.args.self.now.places c.args.number c.requires.whole c.in_default.ensures in
     record {
       gone = none;
       others = λ m ne. refl;
@@ -34,6 +32,4 @@ returns-in-None c =
       long = refl;
       freed = λ j b. absurd (held-some c.args.self.now.places j c.args.number b none);
       stays = λ j b. refl;
-      levels = λ j h. h;
-      counts = λ j. refl;
     }

@@ -4,11 +4,6 @@ use Rattle.session.specs.Views.{entry_of, standing}
 use Rattle.session.proofs.Entries.{entry_at}
 use Rattle.session.proofs.ciphers.Ciphers.named.Goals as goal
 
-pub index-requires : goal.index-requires
-index-requires c =
-    let entries = c.args.self.now.entries in
-    omega (arith, c.in_ok-i.ensures.within, length-map (vec_items entries) entry_of, entries.ok.0)
-
 pub returns : goal.returns
 returns c =
     let entries = c.args.self.now.entries in

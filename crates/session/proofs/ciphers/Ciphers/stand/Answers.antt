@@ -5,11 +5,6 @@ use Rattle.session.proofs.Entries.{entry_at}
 use Rattle.session.proofs.Loading.{restood_at}
 use Rattle.session.proofs.ciphers.Ciphers.stand.Goals as goal
 
-pub index_mut-requires : goal.index_mut-requires
-index_mut-requires c =
-    let entries = c.args.self.now.entries in
-    omega (arith, c.in-Some.ensures.within, length-map (vec_items entries) entry_of, entries.ok.0)
-
 pub returns-in-Some : goal.returns-in-Some
 returns-in-Some c =
     let items = vec_items c.args.self.now.entries in

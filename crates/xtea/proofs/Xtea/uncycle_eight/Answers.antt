@@ -1,7 +1,0 @@
-use Rattle.xtea.proofs.Turns.{unturn}
-use Rattle.xtea.proofs.Xtea.uncycle_eight.Goals as goal
-
-pub returns : goal.returns
-returns c = λ x p q.
-    unturn c.args.self.now.key c.args.sum _ _ _ _ _ _ x c.left_word.ensures c.right_word.ensures
-    p q c.mix_eight.ensures c.mix_eight-2.ensures
