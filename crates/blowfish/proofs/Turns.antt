@@ -1,5 +1,5 @@
 -- The rounds in turns: the words of P are xored in one round early.
-use Rattle.std.proofs.Common.{◌≡◌, ℕ, suc, ◌+◌, ◌*◌, ◌/◌, ◌%◌, ◌^◌, ◌<◌, List, [], ◌∷◌, length, map, take, drop, slice_index, slice_index_or, ap, refl, subst, sym, ◌∙◌, add-one, arith}
+use Rattle.std.proofs.Common.{◌≡◌, ℕ, zero, suc, ◌+◌, ◌*◌, ◌/◌, ◌%◌, ◌^◌, ◌<◌, List, [], ◌∷◌, length, map, take, drop, slice_index, slice_index_or, ap, refl, subst, sym, ◌∙◌, add-one, arith}
 use Rattle.std.proofs.Math.Nat.{mod-eq_of_lt}
 use Rattle.std.specs.List.{push}
 use Rattle.std.proofs.lemmas.List.{length_push, get_or-take, get_or-drop}
@@ -11,7 +11,7 @@ use Rattle.cipher.specs.declared.block.Block.{Block}
 use Rattle.cipher.specs.Inverses.{same}
 use Rattle.cipher.specs.Rounds.{rounds, unrounds}
 use Rattle.blowfish.specs.declared.tables.Blowfish.{Blowfish}
-use Rattle.blowfish.specs.Blowfish.{f, pword, odd_round, even_round, pair, begun, begun_at, exchanged, odd_back_of, even_back_of, pair_back, enciphered, deciphered, enciphering, deciphering, turned}
+use Rattle.blowfish.specs.Blowfish.{f, pword, odd_round, even_round, pair, begun, begun_at, exchanged, odd_back_of, even_back_of, pair_back, enciphering, deciphering, turned}
 
 past : (a k f : ℕ) → bit_xor (bit_xor a k) f ≡ bit_xor (bit_xor a f) k
 past a k f = xor_assoc a k f ∙ ap (bit_xor a) (xor_comm k f) ∙ sym (xor_assoc a f k)
@@ -24,6 +24,35 @@ two_turns t odd even u v b =
     let l = bit_xor b.left odd in
     let m : bit_xor (bit_xor b.right even) (f t l) ≡ bit_xor (bit_xor b.right (f t l)) even = past b.right even (f t l) in
     same _ _ _ _ (ap (λ x. bit_xor (bit_xor l u) (f t x)) m ∙ past l u _) (ap (λ x. bit_xor x v) m)
+
+-- the round of the number i + 1 in turns: word i + 2 of P is the next one
+abbrev pub turned_at : Blowfish → ℕ → Block → Block
+turned_at t i b = turned t (pword t (i + 2)) b
+
+next : (t : Blowfish) (m : ℕ) (b c : Block) → rounds (turned_at t) m b ≡ begun (pword t m) (pword t (m + 1)) c
+    → rounds (turned_at t) (m + 2) b
+    ≡ begun (pword t (m + 2)) (pword t (m + 3)) (even_round t (pword t (m + 1)) (odd_round t (pword t m) c))
+next t m b c h =
+    let e : m + 2 ≡ suc (suc m) = omega arith in
+    let k : suc m + 2 ≡ m + 3 = omega arith in
+    ap (λ n. rounds (turned_at t) n b) e ∙ ap (λ n. turned t (pword t n) (turned_at t m (rounds (turned_at t) m b))) k
+    ∙ ap (λ y. turned t (pword t (m + 3)) (turned_at t m y)) h
+    ∙ two_turns t (pword t m) (pword t (m + 1)) (pword t (m + 2)) (pword t (m + 3)) c
+
+many : (t : Blowfish) (n : ℕ) (b : Block) → rounds (turned_at t) (2 * n) (begun_at t 0 b) ≡ begun_at t n (rounds (pair t) n b)
+many t zero b = refl
+many t (suc n) b =
+    let e : 2 * suc n ≡ 2 * n + 2 = omega arith in
+    let o : 2 * n + 3 ≡ 2 * suc n + 1 = omega arith in
+    ap (λ k. rounds (turned_at t) k (begun_at t 0 b)) e ∙ next t (2 * n) (begun_at t 0 b) (rounds (pair t) n b) (many t n b)
+    ∙ ap (λ k. begun (pword t k) (pword t (2 * n + 3)) (rounds (pair t) (suc n) b)) (sym e)
+    ∙ ap (λ k. begun (pword t (2 * suc n)) (pword t k) (rounds (pair t) (suc n) b)) o
+
+-- n pairs of rounds in turns, and the halves exchanged, are the cipher
+pub turns_are : (t : Blowfish) (n : ℕ) (b z x : Block) → z ≡ begun_at t 0 b → x ≡ rounds (turned_at t) (2 * n) z
+    → exchanged x ≡ enciphering t n b
+unfolding enciphering
+turns_are t n b z x first e = ap exchanged (e ∙ ap (rounds (turned_at t) (2 * n)) first ∙ many t n b)
 
 -- the words of P by pairs
 pub first_word : (t : Blowfish) (j : ℕ) → slice_index (slice_index_or t.p j []) 0 < 2 ^ 32 → slice_index (slice_index_or t.p j []) 0 ≡ pword t (2 * j)
@@ -51,20 +80,28 @@ next_gone t j n u v b c s first second e =
     ∙ ap (λ w. begun w v (rounds (pair t) (suc j) b)) first ∙ ap (λ w. begun (pword t (2 * n)) w (rounds (pair t) (suc j) b)) second
     ∙ ap (λ k. begun_at t n (rounds (pair t) k b)) (sym s)
 
--- a pair after the first, in P and in what follows P's first pair
-pub after_first : (ps : List (List ℕ)) (j : ℕ) → j < 8 → slice_index_or (take 8 (drop 1 ps)) j [] ≡ slice_index_or ps (j + 1) []
-after_first ps j lt =
+-- a pair after the first, in P and in the n that follow P's first pair
+pub after_first : (ps : List (List ℕ)) (n j : ℕ) → j < n → slice_index_or (take n (drop 1 ps)) j [] ≡ slice_index_or ps (j + 1) []
+after_first ps n j lt =
     let e : 1 + j ≡ j + 1 = omega arith in
-    get_or-take 8 (drop 1 ps) j [] lt ∙ get_or-drop 1 ps j [] ∙ ap (λ k. slice_index_or ps k []) e
+    get_or-take n (drop 1 ps) j [] lt ∙ get_or-drop 1 ps j [] ∙ ap (λ k. slice_index_or ps k []) e
 
-pub step_is : (t : Blowfish) (j n : ℕ) (ws : List ℕ) (b c x : Block) → n ≡ suc j
+-- a pair of rounds in turns, by the words of a pair of P
+pub step_is : (t : Blowfish) (j n : ℕ) (ws : List ℕ) (z c x : Block) → n ≡ suc j
     → x ≡ turned t (slice_index ws 1) (turned t (slice_index ws 0) c) → ws ≡ slice_index_or t.p n []
-    → slice_index ws 0 < 2 ^ 32 → slice_index ws 1 < 2 ^ 32 → c ≡ gone t j b → x ≡ gone t n b
-step_is t j n ws b c x s made at odd even e =
+    → slice_index ws 0 < 2 ^ 32 → slice_index ws 1 < 2 ^ 32 → c ≡ rounds (turned_at t) (2 * j) z → x ≡ rounds (turned_at t) (2 * n) z
+step_is t j n ws z c x s made at odd even e =
     let P : List ℕ → Type 0 = λ v. slice_index v 0 < 2 ^ 32 in
     let Q : List ℕ → Type 0 = λ v. slice_index v 1 < 2 ^ 32 in
-    made ∙ next_gone t j n _ _ b c s (ap (λ v. slice_index v 0) at ∙ first_word t n (subst P at odd))
-    (ap (λ v. slice_index v 1) at ∙ second_word t n (subst Q at even)) e
+    let d : 2 * n ≡ 2 * j + 2 = omega (arith, s) in
+    let o : 2 * n + 1 ≡ suc (2 * j) + 2 = omega (arith, s) in
+    let g : 2 * n ≡ suc (suc (2 * j)) = omega (arith, s) in
+    made ∙ ap (λ y. turned t (slice_index ws 1) (turned t (slice_index ws 0) y)) e
+    ∙ ap (λ w. turned t (slice_index ws 1) (turned t w (rounds (turned_at t) (2 * j) z)))
+    (ap (λ v. slice_index v 0) at ∙ first_word t n (subst P at odd) ∙ ap (pword t) d)
+    ∙ ap (λ w. turned t w (turned_at t (2 * j) (rounds (turned_at t) (2 * j) z)))
+    (ap (λ v. slice_index v 1) at ∙ second_word t n (subst Q at even) ∙ ap (pword t) o)
+    ∙ ap (λ k. rounds (turned_at t) k z) (sym g)
 
 pub next_pair : (t : Blowfish) (j n u v : ℕ) (xs ys : List Block) → n ≡ suc j → u ≡ pword t (2 * n) → v ≡ pword t (2 * n + 1)
     → ys ≡ map (gone t j) xs → map (λ b. turned t v (turned t u b)) ys ≡ map (gone t n) xs
@@ -72,13 +109,10 @@ next_pair t j n u v xs ys s first second e =
     ap (map (λ b. turned t v (turned t u b))) e ∙ map-map (λ b. turned t v (turned t u b)) (gone t j) xs
     ∙ ap (λ f. map f xs) (λ i b. next_gone t j n u v b (gone t j b) s first second refl i)
 
-pub gone_through : (t : Blowfish) (n : ℕ) (b c : Block) → n ≡ 8 → c ≡ gone t n b → exchanged c ≡ enciphered t b
+pub closed : (t : Blowfish) (xs ys : List Block) (n m : ℕ) → n ≡ m → ys ≡ map (gone t n) xs
+    → map exchanged ys ≡ map (enciphering t m) xs
 unfolding enciphering
-gone_through t n b c e h = ap exchanged (h ∙ ap (λ j. gone t j b) e)
-
-pub closed : (t : Blowfish) (xs ys : List Block) (n : ℕ) → n ≡ 8 → ys ≡ map (gone t n) xs → map exchanged ys ≡ map (enciphered t) xs
-unfolding enciphering
-closed t xs ys n e h = ap (map exchanged) (h ∙ ap (λ j. map (gone t j) xs) e) ∙ map-map exchanged (gone t 8) xs
+closed t xs ys n m e h = ap (map exchanged) (h ∙ ap (λ j. map (gone t j) xs) e) ∙ map-map exchanged (gone t m) xs
 
 -- what is left of P's pairs as they are taken from the end
 pub popped : (ps rest left : List (List ℕ)) (x : List ℕ) → rest ≡ push left x → rest ≡ take (length rest) ps
@@ -92,16 +126,15 @@ popped ps rest left x e h =
     )
 
 -- a block on its way back, with n pairs of rounds still to undo
-pub pair_undone : (t : Blowfish) (n m u v : ℕ) (xs ys : List Block) → m ≡ suc n → u ≡ pword t (2 * n) → v ≡ pword t (2 * n + 1)
-    → map (unrounds (pair_back t) m) ys ≡ map (deciphered t) xs
-    → map (unrounds (pair_back t) n) (map (λ b. odd_back_of t u (even_back_of t v b)) ys) ≡ map (deciphered t) xs
-pair_undone t n m u v xs ys s first second e =
+pub pair_undone : (t : Blowfish) (n m u v : ℕ) (ys zs : List Block) → m ≡ suc n → u ≡ pword t (2 * n) → v ≡ pword t (2 * n + 1)
+    → map (unrounds (pair_back t) m) ys ≡ zs → map (unrounds (pair_back t) n) (map (λ b. odd_back_of t u (even_back_of t v b)) ys) ≡ zs
+pair_undone t n m u v ys zs s first second e =
     map-map (unrounds (pair_back t) n) (λ b. odd_back_of t u (even_back_of t v b)) ys
     ∙ ap (λ f. map f ys) (λ i b. (ap (λ w. unrounds (pair_back t) n (odd_back_of t w (even_back_of t v b))) first
     ∙ ap (λ w. unrounds (pair_back t) n (odd_back_of t (pword t (2 * n)) (even_back_of t w b))) second) i)
     ∙ ap (λ k. map (unrounds (pair_back t) k) ys) (sym s) ∙ e
 
-pub opened : (t : Blowfish) (xs ys : List Block) → ys ≡ map (λ b. begun_at t 8 (exchanged b)) xs
-    → map (unrounds (pair_back t) 8) ys ≡ map (deciphered t) xs
+pub opened : (t : Blowfish) (n : ℕ) (xs ys : List Block) → ys ≡ map (λ b. begun_at t n (exchanged b)) xs
+    → map (unrounds (pair_back t) n) ys ≡ map (deciphering t n) xs
 unfolding deciphering
-opened t xs ys e = ap (map (unrounds (pair_back t) 8)) e ∙ map-map (unrounds (pair_back t) 8) (λ b. begun_at t 8 (exchanged b)) xs
+opened t n xs ys e = ap (map (unrounds (pair_back t) n)) e ∙ map-map (unrounds (pair_back t) n) (λ b. begun_at t n (exchanged b)) xs

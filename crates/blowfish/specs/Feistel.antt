@@ -7,7 +7,7 @@ use Rattle.cipher.specs.Rounds.{rounds, unrounds}
 use Rattle.cipher.specs.Inverses.{same, inverse_then, inverse_rounds}
 use Rattle.cipher.proofs.Words.{xor_twice}
 use Rattle.blowfish.specs.declared.tables.Blowfish.{Blowfish}
-use Rattle.blowfish.specs.Blowfish.{pword, f, odd_round, even_round, odd_back_of, even_back_of, pair, pair_back, begun_at, exchanged, enciphering, deciphering, enciphered, deciphered}
+use Rattle.blowfish.specs.Blowfish.{pword, f, odd_round, even_round, odd_back_of, even_back_of, pair, pair_back, begun, begun_at, exchanged, enciphering, deciphering, enciphered, deciphered}
 
 f_lt : (t : Blowfish) (w : ℕ) → f t w < 2 ^ 32
 f_lt t w = omega arith
@@ -40,13 +40,14 @@ module _ (t : Blowfish) where
             same _ _ _ _ (ap (λ v. bit_xor (bit_xor b.left (f t b.right)) (f t v)) r ∙ xor_twice b.left (f t b.right)) r;
       }
 
-  closed_inverse : (j : ℕ) → Inverse (λ b. exchanged (begun_at t j b)) (λ b. begun_at t j (exchanged b))
-  closed_inverse j =
+  closed_inverse : (i : ℕ)
+      → Inverse (λ b. exchanged (begun (pword t i) (pword t (i + 1)) b)) (λ b. begun (pword t i) (pword t (i + 1)) (exchanged b))
+  closed_inverse i =
       record {
-        enc_sound = λ b h. (xor_lt 32 _ _ h.1 (pword_lt t (2 * j + 1)), xor_lt 32 _ _ h.0 (pword_lt t (2 * j)));
-        dec_sound = λ b h. (xor_lt 32 _ _ h.1 (pword_lt t (2 * j)), xor_lt 32 _ _ h.0 (pword_lt t (2 * j + 1)));
-        dec_enc = λ b h. same _ _ _ _ (xor_twice b.left (pword t (2 * j))) (xor_twice b.right (pword t (2 * j + 1)));
-        enc_dec = λ b h. same _ _ _ _ (xor_twice b.left (pword t (2 * j + 1))) (xor_twice b.right (pword t (2 * j)));
+        enc_sound = λ b h. (xor_lt 32 _ _ h.1 (pword_lt t (i + 1)), xor_lt 32 _ _ h.0 (pword_lt t i));
+        dec_sound = λ b h. (xor_lt 32 _ _ h.1 (pword_lt t i), xor_lt 32 _ _ h.0 (pword_lt t (i + 1)));
+        dec_enc = λ b h. same _ _ _ _ (xor_twice b.left (pword t i)) (xor_twice b.right (pword t (i + 1)));
+        enc_dec = λ b h. same _ _ _ _ (xor_twice b.left (pword t (i + 1))) (xor_twice b.right (pword t i));
       }
 
   pair_inverse : (j : ℕ) → Inverse (pair t j) (pair_back t j)
@@ -60,4 +61,4 @@ module _ (t : Blowfish) where
   unfolding enciphering deciphering
   inverse =
       inverse_then (rounds (pair t) 8) (unrounds (pair_back t) 8) (λ b. exchanged (begun_at t 8 b)) (λ b. begun_at t 8 (exchanged b))
-      (inverse_rounds (pair t) (pair_back t) pair_inverse 8) (closed_inverse 8)
+      (inverse_rounds (pair t) (pair_back t) pair_inverse 8) (closed_inverse 16)

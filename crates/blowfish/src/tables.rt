@@ -1,10 +1,13 @@
 //! The tables, and the rounds over them.
 ghost use Rattle.std.specs.Prelude.{◌≡◌, ◌≤◌, map};
-ghost use Rattle.blowfish.specs.Blowfish.{f as f_of, turned, odd_back_of, even_back_of, begun, exchanged, enciphered, deciphered};
+ghost use Rattle.blowfish.specs.Blowfish.{f as f_of, turned, odd_back_of, even_back_of, begun, exchanged, enciphering, deciphering};
 ghost use Rattle.blowfish.specs.Schedule.{initial};
 
 use crate::pi;
 use cipher::block::Block;
+
+/// Sixteen rounds, an odd and an even one to a pair.
+const PAIRS: usize = 8;
 
 /// Blowfish under the key that was loaded last; at the tables of pi before any load.
 #[derive(Clone, Copy)]
@@ -102,11 +105,11 @@ impl Blowfish {
     /// One block through all rounds.
     // a twin of `forward`: the halves of an array of one are packed into one word and unpacked, which makes a block 8 in 100 slower
     pub(crate) fn forward_one(&self, block: Block) -> Block
-        ensures { result ≡ enciphered self.now block }
+        ensures { result ≡ enciphering self.now PAIRS block }
     {
         let [left, right] = self.p[0];
         let mut x = begin(left, right, block);
-        let rest = &self.p[1..];
+        let rest = &self.p[1..=PAIRS];
         for &[odd, even] in rest {
             x = self.turns(odd, even, x);
         }
@@ -117,11 +120,11 @@ impl Blowfish {
     // Each round's word of P is xored in a round early: one xor less stands between a round and the next.
     pub(crate) fn forward<const N: usize>(&self, blocks: [Block; N]) -> [Block; N]
         requires { N ≤ 4 }
-        ensures { result ≡ map (enciphered self.now) blocks.entry }
+        ensures { result ≡ map (enciphering self.now PAIRS) blocks.entry }
     {
         let [left, right] = self.p[0];
         let mut blocks = blocks.map(|block| begin(left, right, block));
-        for &[odd, even] in &self.p[1..] {
+        for &[odd, even] in &self.p[1..=PAIRS] {
             blocks = blocks.map(|block| self.turns(odd, even, block));
         }
         blocks.map(exchange)
@@ -130,11 +133,11 @@ impl Blowfish {
     /// Blocks back through all rounds, each pair of rounds for every block before the next pair.
     pub(crate) fn backward<const N: usize>(&self, blocks: [Block; N]) -> [Block; N]
         requires { N ≤ 4 }
-        ensures { result ≡ map (deciphered self.now) blocks.entry }
+        ensures { result ≡ map (deciphering self.now PAIRS) blocks.entry }
     {
-        let [left, right] = self.p[8];
+        let [left, right] = self.p[PAIRS];
         let mut blocks = blocks.map(|block| begin(left, right, exchange(block)));
-        for &[odd, even] in self.p[..8].iter().rev() {
+        for &[odd, even] in self.p[..PAIRS].iter().rev() {
             blocks = blocks.map(|block| self.pair_back(odd, even, block));
         }
         blocks

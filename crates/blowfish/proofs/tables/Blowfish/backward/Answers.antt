@@ -2,6 +2,7 @@ use Rattle.std.proofs.Common.{◌≡◌, ◌+◌, ◌*◌, ◌∙◌, [], length
 use Rattle.std.proofs.lemmas.Grind.{common_steps}
 use Rattle.std.proofs.lemmas.List.{length-map as map_keeps}
 use Rattle.cipher.specs.Rounds.{unrounds}
+use Rattle.blowfish.specs.declared.tables.TheConstants.{PAIRS}
 use Rattle.blowfish.specs.Blowfish.{pword, begun, exchanged, odd_back_of, even_back_of, pair_back}
 use Rattle.blowfish.proofs.Maps.{mapped}
 use Rattle.blowfish.proofs.Turns.{first_word, second_word, popped, pair_undone, opened}
@@ -10,15 +11,15 @@ use Rattle.blowfish.proofs.tables.Blowfish.backward.Goals as goal
 pub loop-odd-init : goal.loop-odd-init
 loop-odd-init g c =
     let t = c.args.self.now in
-    let l = slice_index (slice_index_or t.p 8 []) 0 in
-    let r = slice_index (slice_index_or t.p 8 []) 1 in
-    let e : l ≡ pword t 16 = search rules in
-    let h : r ≡ pword t 17 = search rules in
+    let l = slice_index (slice_index_or t.p PAIRS []) 0 in
+    let r = slice_index (slice_index_or t.p PAIRS []) 1 in
+    let e : l ≡ pword t (2 * PAIRS) = first_word t PAIRS (search rules) in
+    let h : r ≡ pword t (2 * PAIRS + 1) = second_word t PAIRS (search rules) in
     let m = mapped _ (λ p. (p.0.now ≡ l) × (p.1.now ≡ r)) (λ b. begun l r (exchanged b)) (λ p q x y s called. ((search rules, search rules), search rules)) _ _ _ _
     (search rules, search rules) (search rules) c.map-blocks.ensures.items
-    ∙ ap (λ w. map (λ b. begun w r (exchanged b)) c.args.blocks) e ∙ ap (λ w. map (λ b. begun (pword t 16) w (exchanged b)) c.args.blocks) h in
-    let eight : length c.into_iter-odd-iterator.result.iter.rest.now ≡ 8 = grind (arith, common_steps) in
-    (grind (arith, common_steps), omega (arith, eight), ap length m ∙ map_keeps c.args.blocks _, ap (λ k. map (unrounds (pair_back t) k) c.map-blocks.result) eight ∙ opened t c.args.blocks _ m)
+    ∙ ap (λ w. map (λ b. begun w r (exchanged b)) c.args.blocks) e ∙ ap (λ w. map (λ b. begun (pword t (2 * PAIRS)) w (exchanged b)) c.args.blocks) h in
+    let all : length c.into_iter-odd-iterator.result.iter.rest.now ≡ PAIRS = grind (arith, common_steps) in
+    (grind (arith, common_steps), omega (arith, all), ap length m ∙ map_keeps c.args.blocks _, ap (λ k. map (unrounds (pair_back t) k) c.map-blocks.result) all ∙ opened t PAIRS c.args.blocks _ m)
 
 pub loop-odd-preserved : goal.loop-odd-preserved
 loop-odd-preserved g c =
@@ -33,7 +34,7 @@ loop-odd-preserved g c =
     let m = mapped _ (λ p. (p.0.now ≡ t) × (p.1.now ≡ u) × (p.2.now ≡ v)) (λ b. odd_back_of t u (even_back_of t v b))
     (λ p q x y s called. ((search rules, search rules, search rules), search rules)) _ c.loop-odd.blocks _ _
     (search rules, search rules, search rules) (c.loop-odd.invariant.2 ∙ search rules) c.map-blocks-in-loop-odd.ensures.items in
-    (p.1, omega (arith, p.0, c.loop-odd.invariant.1), ap length m ∙ map_keeps c.loop-odd.blocks _ ∙ c.loop-odd.invariant.2, ap (map _) m ∙ pair_undone t n _ u v c.args.blocks c.loop-odd.blocks p.0 e h c.loop-odd.invariant.3)
+    (p.1, omega (arith, p.0, c.loop-odd.invariant.1), ap length m ∙ map_keeps c.loop-odd.blocks _ ∙ c.loop-odd.invariant.2, ap (map _) m ∙ pair_undone t n _ u v c.loop-odd.blocks _ p.0 e h c.loop-odd.invariant.3)
 
 pub returns : goal.returns
 returns g c =

@@ -1,5 +1,6 @@
 use Rattle.std.proofs.Common.{◌≡◌, ◌+◌, ◌*◌, ◌∙◌, [], length, map, slice_index, slice_index_or, ap, rules, add-one}
 use Rattle.std.proofs.lemmas.List.{length-map as map_keeps}
+use Rattle.blowfish.specs.declared.tables.TheConstants.{PAIRS}
 use Rattle.blowfish.specs.Blowfish.{pword, begun, turned, exchanged}
 use Rattle.blowfish.proofs.Maps.{mapped}
 use Rattle.blowfish.proofs.Turns.{first_word, second_word, gone, next_pair, closed}
@@ -33,7 +34,7 @@ loop-odd-preserved g c =
 pub returns : goal.returns
 returns g c =
     let t = c.args.self.now in
-    let e : c.loop-odd.odd-index ≡ 8 = search rules in
+    let e : c.loop-odd.odd-index ≡ PAIRS = search rules in
     let long = ap length c.loop-odd.invariant ∙ map_keeps c.args.blocks (gone t c.loop-odd.odd-index) in
     mapped _ (λ p. p ≡ p) exchanged (λ p q x y s called. (search rules, search rules)) _ c.loop-odd.blocks _ _
-    (search rules) (long ∙ search rules) c.map.ensures.items ∙ closed t c.args.blocks c.loop-odd.blocks _ e c.loop-odd.invariant
+    (search rules) (long ∙ search rules) c.map.ensures.items ∙ closed t c.args.blocks c.loop-odd.blocks _ PAIRS e c.loop-odd.invariant
