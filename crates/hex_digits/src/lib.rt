@@ -116,7 +116,9 @@ pub fn spell_block(block: Block) -> [u8; 16]
     ensures { result ≡ spelled (bytes_of block) }
 {
     let bytes: [u8; 8] = block.into();
-    array::from_fn(|i| digits_of(bytes[i / 2])[i % 2])
+    // by bytes first, so that each byte's digits are made once
+    let pairs = bytes.map(digits_of);
+    array::from_fn(|i| pairs[i / 2][i % 2])
 }
 
 /// The digits of bytes.

@@ -1,6 +1,6 @@
 //! One line of test vectors, a key and a plaintext, and the line that answers it.
 //!
-//! Public: `answer`, and `Reply` with `bytes`.
+//! Public: `answer`, and `Reply` with `ciphertext` and `bytes`.
 #![tactic(auto)]
 
 ghost use Rattle.std.specs.Prelude.{◌≤◌, MatchOption};

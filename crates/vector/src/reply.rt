@@ -5,7 +5,7 @@ ghost use Rattle.vector.specs.Replies.{reply_bytes, digits_or_hyphen};
 /// The digits of a ciphertext; none, which is written as a hyphen, for a line of no such form.
 #[derive(Clone, Copy, PartialEq, Eq, Debug)]
 pub struct Reply {
-    ciphertext: Option<[u8; 16]>,
+    pub ciphertext: Option<[u8; 16]>,
 }
 
 impl From<Option<[u8; 16]>> for Reply {

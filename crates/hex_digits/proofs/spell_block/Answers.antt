@@ -12,6 +12,8 @@ returns c =
     (λ k h.
     let i : k < 16 = omega (arith, h, c.from_fn.ensures.items.long) in
     let t = c.from_fn.ensures.items.at k 0 i in
-    let u : get_or c.from_fn.result k 0 ≡ get_or (spelled (get_or b (k / 2) 0 ∷ [])) (k % 2) 0 = search (rules, t.2) in
-    u ∙ spelled_at b k (omega (arith, h, c.from_fn.ensures.items.long, l)))
+    let s = c.map-pairs.ensures.items.at (k / 2) 0 [] (omega arith) in
+    let m : get_or c.map-pairs.result (k / 2) [] ≡ spelled (get_or b (k / 2) 0 ∷ []) = search (rules, s.2) in
+    let u : get_or c.from_fn.result k 0 ≡ get_or (get_or c.map-pairs.result (k / 2) []) (k % 2) 0 = search (rules, t.2) in
+    u ∙ ap (λ xs. get_or xs (k % 2) 0) m ∙ spelled_at b k (omega (arith, h, c.from_fn.ensures.items.long, l)))
     ∙ ap spelled c.into-bytes.ensures.0

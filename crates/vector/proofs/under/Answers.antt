@@ -33,4 +33,4 @@ returns g c =
           ∙ ap (λ xs. spelled c.read.new.bytes ++ (32 ∷ xs)) (sym c.in_ok-block.ensures);
     }
     )
-    block.1 c.spell_block.ensures
+    block.1 (search rules)
