@@ -5,6 +5,7 @@
 --   put n m s      the same state, but that n stands for m
 --   At n s i       the name n stands at place i of s
 --   kinds s        the names, each with the kind of cipher that it stands for, in that order
+--   Shown s i n k  the i-th name is n, which stands for a cipher of kind k
 --   keyed_at n s   the keyed cipher that a name stands for, or why there is none
 use Rattle.std.specs.Prelude.{◌≡◌, ℕ, ◌<◌, cond, List, [], ◌∷◌, map, length, Some, None, Ok, Err, Option, Result, slice_index_or, slice_set}
 use Rattle.std.specs.Str.{bytes_eq}
@@ -38,6 +39,10 @@ pub record At (n : List ℕ) (s : State) (i : ℕ) : Type 0 where
 
 abbrev pub kinds : State → List (List ℕ × Kind)
 kinds s = map (λ e. (e.0, e.1.kind)) s
+
+-- the name n is the one at place i, and stands for a cipher of kind k
+abbrev pub Shown : State → ℕ → List ℕ → Kind → Type 0
+Shown s i n k = (d : List ℕ × Meaning) → ((slice_index_or s i d).0 ≡ n) × ((slice_index_or s i d).1.kind ≡ k)
 
 -- a triple is not keyed
 abbrev pub keyed_of : Kind → Meaning → Result Meaning Unreadable

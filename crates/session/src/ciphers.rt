@@ -1,7 +1,7 @@
 //! Ciphers under names, and the calls on them.
-ghost use Rattle.std.specs.Prelude.{◌≡◌, [], ◌∷◌, ◌++◌, Some, None, Ok, Err, MatchOption, MatchResult};
+ghost use Rattle.std.specs.Prelude.{◌≡◌, ◌<◌, ◌≤◌, [], ◌∷◌, ◌++◌, length, Some, None, Ok, Err, MatchOption, MatchResult};
 ghost use Rattle.std.specs.Option.{option_map};
-ghost use Rattle.session.specs.State.{find, At, keyed_at, kinds};
+ghost use Rattle.session.specs.State.{find, At, keyed_at, kinds, Shown};
 ghost use Rattle.cipher.specs.declared.one_of.OneOf.TheVariants.{First as One};
 ghost use Rattle.script.specs.Calls.{making, working, verb_of, args_of};
 ghost use Rattle.script.specs.Calls.Making.{triple};
@@ -18,7 +18,7 @@ use crate::fault::Fault;
 use crate::standing::Standing;
 use crate::texts;
 use crate::way::{Deciphering, Enciphering, Way};
-use chosen::{Chosen, Keyed};
+use chosen::{Chosen, Keyed, Kind};
 use cipher::Triple;
 use script::{Call, Make, Unreadable, Work};
 use std::alloc::{AllocError, Global};
@@ -121,7 +121,11 @@ impl Ciphers {
         if self.named(name).is_some() {
             return Err(Fault::Unreadable(Unreadable::NameTaken));
         }
-        let cipher = self.made(make)?;
+        // a match, since a `?` copies the whole cipher once more
+        let cipher = match self.made(make) {
+            Ok(cipher) => cipher,
+            Err(why) => return Err(Fault::Unreadable(why)),
+        };
         self.join(name, cipher)?;
         Ok(Value::Nothing)
     }
@@ -139,7 +143,16 @@ impl Ciphers {
     fn load(&mut self, name: &[u8], key: &[u8]) -> Result<Value, Fault>
         ensures { Loads name.now key.now (standing self.old) (answer_of result) (standing self.new) }
     {
-        let mut cipher = self.keyed(name)?;
+        let cipher = self.keyed(name)?;
+        self.reload(name, cipher, key)
+    }
+
+    // apart from `load`, so that room for a changed cipher is made only where the name stands for one
+    /// Loads a key into a copy of the keyed cipher that a name stands for, and lets the name stand for that.
+    fn reload(&mut self, name: &[u8], mut cipher: Keyed, key: &[u8]) -> Result<Value, Fault>
+        requires { keyed_at name.now (standing self.now) ≡ Ok (meaning (One cipher)) }
+        ensures { Loads name.now key.now (standing self.old) (answer_of result) (standing self.new) }
+    {
         chosen::load(&mut cipher, key)?;
         self.stand(name, Chosen::First(cipher));
         Ok(Value::Nothing)
@@ -196,6 +209,14 @@ impl Ciphers {
             Call::Mode(name) => self.mode(name),
             Call::Tag(name, text) => self.tag(name, text.as_slice()),
         }
+    }
+
+    /// The name at a place and the kind of cipher that it stands for, if so many names were given.
+    pub(crate) fn entry(&self, i: usize) -> Option<(&[u8], Kind)>
+        ensures { MatchOption result (length (standing self.now) ≤ i) (λ x. (i < length (standing self.now)) × Shown (standing self.now) i x.0.now x.1) }
+    {
+        let entry = self.entries.get(i)?;
+        Some((entry.name.as_slice(), Kind::from(&entry.cipher)))
     }
 
     /// Each name and the kind of cipher that it stands for.

@@ -1,6 +1,6 @@
 //! What the lines of a script come to: ciphers under names, and the calls on them.
 //!
-//! Public: `Session` with `new`, `line`, `tally` and `ciphers`; `Answer` and its `Value`; `Tally` with `calls`; `Standing`.
+//! Public: `Session` with `new`, `line`, `tally`, `cipher` and `ciphers`; `Answer` and its `Value`; `Tally` with `calls`; `Standing`.
 #![tactic(auto)]
 
 mod answer;

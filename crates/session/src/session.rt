@@ -1,14 +1,15 @@
 //! A session: the lines of one script, from the first on.
-ghost use Rattle.std.specs.Prelude.{◌≡◌, []};
+ghost use Rattle.std.specs.Prelude.{◌≡◌, ◌<◌, ◌≤◌, [], length, MatchOption};
 ghost use Rattle.script.specs.Words.{words};
 ghost use Rattle.session.specs.Lines.{Heeded, none};
-ghost use Rattle.session.specs.State.{kinds};
+ghost use Rattle.session.specs.State.{kinds, Shown};
 ghost use Rattle.session.specs.Views.{standing, to_come};
 
 use crate::answer::Answer;
 use crate::ciphers::Ciphers;
 use crate::standing::Standing;
 use crate::tally::Tally;
+use chosen::Kind;
 use std::alloc::Global;
 
 /// What a script has come to so far.
@@ -44,6 +45,13 @@ impl Session {
         ensures { result.now ≡ self.now.tally }
     {
         &self.tally
+    }
+
+    /// The i-th name that was given, and the kind of cipher that it stands for; none past the last.
+    pub fn cipher(&self, i: usize) -> Option<(&[u8], Kind)>
+        ensures { MatchOption result (length (standing self.now.ciphers) ≤ i) (λ x. (i < length (standing self.now.ciphers)) × Shown (standing self.now.ciphers) i x.0.now x.1) }
+    {
+        self.ciphers.entry(i)
     }
 
     /// Each name that was given, and the kind of cipher that it stands for, in the order in which they were given.

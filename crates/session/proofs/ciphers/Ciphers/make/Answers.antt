@@ -11,13 +11,12 @@ returns-then-is_some c =
     let x = found_some _ c.named.result (find c.args.name.now (standing c.args.self.now)) c.named.ensures cc in
     taken x.0 x.1 refl refl
 
-pub returns-in_err-cipher : goal.returns-in_err-cipher
-returns-in_err-cipher c =
-    rw (fault c.from_residual.result c.from_residual.ensures.1) (unmade _ (found_none _ c.named.result _ c.named.ensures cc) c.in_err-cipher.ensures refl refl)
+pub returns-in-Err : goal.returns-in-Err
+returns-in-Err c = unmade _ (found_none _ c.named.result _ c.named.ensures cc) c.in-Err.ensures refl refl
 
 pub returns-in_err-join : goal.returns-in_err-join
 returns-in_err-join c =
-    rw (fault c.from_residual-in_err-join.result c.from_residual-in_err-join.ensures.1) (no_memory _ (found_none _ c.named.result _ c.named.ensures cc) c.in_ok-cipher.ensures refl c.in_err-join.ensures)
+    rw (fault c.from_residual.result c.from_residual.ensures.1) (no_memory _ (found_none _ c.named.result _ c.named.ensures cc) c.in-Ok.ensures refl c.in_err-join.ensures)
 
 pub returns : goal.returns
-returns c = makes _ (found_none _ c.named.result _ c.named.ensures cc) c.in_ok-cipher.ensures refl c.in_ok-join.ensures
+returns c = makes _ (found_none _ c.named.result _ c.named.ensures cc) c.in-Ok.ensures refl c.in_ok-join.ensures
