@@ -1,13 +1,17 @@
 -- The first pair of neighbours that holds a stage, and the flow there.
 use Rattle.std.proofs.Common.{◌≡◌, ℕ, ◌+◌, ◌<◌, List, length, ℤ, ◌≤ℤ◌, Some, None, Option, MatchOption, sym, ◌∙◌, subst, ap₂, arith}
-use Rattle.curve.specs.Answers.{Holds, Found, Lawfully}
-use Rattle.curve.specs.Curves.{Curve, point, pair, points, flow_between, Between}
+use Rattle.curve.specs.Answers.{Holds, FirstFlow, Found, Lawfully}
+use Rattle.curve.specs.Curves.{Curve, point, pair, points, flow_between, Between, FlowAt}
 use Rattle.curve.proofs.Neighbours.{any_pair, flow_there, flow_covered}
 use Rattle.curve.proofs.Points.{point_at, points_enough, length-points, length_points_flows}
 
 pub record Answered (c : Curve) (s : ℤ) (r : Option ℕ) : Type 0 where
   pub first : Found c s r
   pub lawful : Lawfully c s r
+
+-- the flow by the first pair is the flow by a pair
+pub first_is_flow : (c : Curve) (s : ℤ) (q : ℕ) → FirstFlow c s q → FlowAt c s q
+first_is_flow c s q f = (f.place, f.holds, f.value)
 
 module _ (ss : List ℤ) (qs : List ℕ) (s : ℤ) where
   -- the neighbours from place k hold the stage
@@ -48,7 +52,8 @@ module _ (ss : List ℤ) (qs : List ℕ) (s : ℤ) where
   answered (Some q) (k, h, l, (at, e), before) =
       let b = holds_between k h l at in
       let v = flow_is k h l q e in
+      let f : FirstFlow (points ss qs) s q = record { place = k; holds = b; first = λ j m d. before j m (between_holds j d); value = v } in
       record {
-        first = record { place = k; holds = b; first = λ j m d. before j m (between_holds j d); value = v };
-        lawful = λ L. (flow_covered (points ss qs) L s q (k, b, v), λ m d. v ∙ any_pair (points ss qs) L k m s b d);
+        first = f;
+        lawful = λ L. (flow_covered (points ss qs) L s q (first_is_flow (points ss qs) s q f), λ m d. v ∙ any_pair (points ss qs) L k m s b d);
       }

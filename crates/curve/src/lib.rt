@@ -16,7 +16,7 @@ use line::Segment;
 
 /// Two lists that make a lawful curve.
 // a device keeps a curve in two arrays, so it is lent as the two lists that lie there
-#[derive(Clone, Copy)]
+#[derive(Clone, Copy, PartialEq, Eq, Debug)]
 pub struct Curve<'a> {
     pub stages: &'a [i32],
     pub flows: &'a [u32],

@@ -94,10 +94,18 @@ module _ (ps : List Place) (i n : ℕ) (p : Place) (in_use : bears (get_or ps i 
   pub freed_stays : (j : ℕ) → bears (get_or ps j blank).state n ≡ false → get_or (set ps i p) j blank ≡ get_or ps j blank
   freed_stays j b = get_or-set_other ps i j p blank (λ e. both_ways _ b (subst (λ k. bears (get_or ps k blank).state n ≡ true) (sym e) in_use))
 
--- the law after a number that is not in force gets a mark
-pub marked_law : (ps : List Place) (marks : List Bool) (n : ℕ) → held ps n ≡ None → ((m : ℕ) (c : Curve) → held ps m ≡ Some c → (m ≡ n → ⊥) → ∥ Sound marks m c ∥₁) → (m : ℕ) (c : Curve) → held ps m ≡ Some c → ∥ Sound (set marks n true) m c ∥₁
-marked_law ps marks n none law m c e =
+-- a place keeps its count, and so does every other
+pub counts_set : (ps : List Place) (i : ℕ) (p : Place) → p.count ≡ (get_or ps i blank).count → (j : ℕ) → (get_or (set ps i p) j blank).count ≡ (get_or ps j blank).count
+counts_set [] i p e j = refl
+counts_set (x ∷ xs) zero p e zero = e
+counts_set (x ∷ xs) zero p e (suc j) = refl
+counts_set (x ∷ xs) (suc i) p e zero = refl
+counts_set (x ∷ xs) (suc i) p e (suc j) = counts_set xs i p e j
+
+-- the law after a number that is not in force gets a mark, or loses one
+pub marked_law : (ps : List Place) (marks : List Bool) (n : ℕ) (b : Bool) → held ps n ≡ None → ((m : ℕ) (c : Curve) → held ps m ≡ Some c → (m ≡ n → ⊥) → ∥ Sound marks m c ∥₁) → (m : ℕ) (c : Curve) → held ps m ≡ Some c → ∥ Sound (set marks n b) m c ∥₁
+marked_law ps marks n b none law m c e =
     ⊎_elim
     (λ q. let f : held ps n ≡ Some c = ap (held ps) (sym q) ∙ e in let z : ◌≡◌ {A = ℕ} 0 1 = cc in absurd (omega arith))
-    (λ ne. ∥∥₁_map (law m c e ne) (λ s. record { number = s.number; unmarked = get_or-set_other marks n m true false ne ∙ s.unmarked; lawful = s.lawful }))
+    (λ ne. ∥∥₁_map (law m c e ne) (λ s. record { number = s.number; unmarked = get_or-set_other marks n m b false ne ∙ s.unmarked; lawful = s.lawful }))
     (cases_eq m n)

@@ -6,7 +6,8 @@
 --   Nowhere ps n     no place is in force with the number n
 --   NoneFree ps      no place is free
 --   once ps n        at most one place is in force with the number n
-use Rattle.std.specs.Prelude.{◌≡◌, ℕ, ◌<◌, Bool, true, false, cond, not, List, [], ◌∷◌, take, is_some, Some, None, Option, ◌==◌, slice_index_or, refl}
+use Rattle.std.specs.Prelude.{◌≡◌, ℕ, ◌<◌, Bool, true, false, cond, not, List, [], ◌∷◌, take, replicate, pos, is_some, Some, None, Option, ◌==◌, slice_index_or, refl}
+use Rattle.std.proofs.Common.{zero-le}
 use Rattle.curve.specs.Curves.{Curve, points}
 use Rattle.register.specs.declared.place.Place.{Place}
 use Rattle.register.specs.declared.place.PlaceState.{PlaceState}
@@ -29,7 +30,11 @@ held (p ∷ ps) n = cond (bears p.state n) (Some (curve_of p)) (held ps n)
 
 -- past the last place
 abbrev pub blank : Place
-blank = record { state = Free; count = 0; stages = []; flows = []; stages_enough = refl; flows_enough = refl }
+blank = record { state = Free; count = 0; stages = []; flows = []; stages_enough = refl; flows_enough = refl; few = zero-le }
+
+-- a place as it is at first
+abbrev pub unused : Place
+unused = record { state = Free; count = 0; stages = replicate 16 (pos 0); flows = replicate 16 0; stages_enough = refl; flows_enough = refl; few = zero-le }
 
 abbrev pub once : List Place → ℕ → Bool
 once [] n = true

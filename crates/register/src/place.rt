@@ -23,6 +23,7 @@ pub struct Place {
     pub flows: [u32; 16],
     pub ghost stages_enough: { length (take count stages) ≡ count },
     pub ghost flows_enough: { length (take count flows) ≡ count },
+    pub ghost few: { count ≤ 16 },
 }
 
 impl Place {

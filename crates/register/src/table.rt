@@ -4,7 +4,7 @@ ghost use Rattle.std.specs.Borrow.{sem, follows};
 ghost use Rattle.register.specs.contracts.table.Table.{the_row as table};
 ghost use Rattle.register.specs.declared.place.Place.{Place as P};
 ghost use Rattle.register.specs.declared.place.PlaceState.TheVariants.{Free, InForce};
-ghost use Rattle.register.specs.Places.{held, bears, is_free_place, Nowhere, NoneFree, blank, once};
+ghost use Rattle.register.specs.Places.{held, bears, is_free_place, Nowhere, NoneFree, blank, unused, once};
 
 use crate::place::{Place, PlaceState};
 use curve::Curve;
@@ -31,7 +31,7 @@ impl<T> Table<T> {
 impl Table<Place> {
     /// A table whose places are all free.
     pub(crate) fn empty() -> Table<Place>
-        ensures { (p : P) × (result.places ≡ replicate 32 p) × (p.state ≡ Free) }
+        ensures { result.places ≡ replicate 32 unused }
     {
         let place = Place {
             state: PlaceState::Free,
@@ -81,7 +81,7 @@ impl Table<Place> {
     /// Frees a place, and changes no other.
     fn release(&mut self, i: usize)
         requires { i < 32 }
-        ensures { (p : P) × (self.new.places ≡ slice_set self.old.places i p) × (p.state ≡ Free) }
+        ensures { (p : P) × (self.new.places ≡ slice_set self.old.places i p) × (p.state ≡ Free) × (p.count ≡ (get_or self.old.places i blank).count) × (p.stages ≡ (get_or self.old.places i blank).stages) × (p.flows ≡ (get_or self.old.places i blank).flows) }
     {
         self.place(i).state = PlaceState::Free;
     }
@@ -96,6 +96,7 @@ impl Table<Place> {
         ensures long { length self.new.places ≡ length self.old.places }
         ensures freed { (j : ℕ) → bears (get_or self.old.places j blank).state number ≡ true → is_free_place (get_or self.new.places j blank).state ≡ true }
         ensures stays { (j : ℕ) → bears (get_or self.old.places j blank).state number ≡ false → slice_index_or self.new.places j blank ≡ slice_index_or self.old.places j blank }
+        ensures counts { (j : ℕ) → (get_or self.new.places j blank).count ≡ (get_or self.old.places j blank).count }
     {
         if let Some(i) = self.find(number) {
             self.release(i);

@@ -23,8 +23,8 @@ invariant_of-self c =
       wide = simp length-set r.wide;
       counted = r.counted;
       apart = (λ m. e.onces m (r.apart m));
-      marks = (λ k h. ⊎_elim (λ q. omega (arith, q)) (λ ne. r.marks k (sym (get_or-set_other r.withdrawn c.args.number k true false ne) ∙ h)) (cases_eq k c.args.number));
-      lawful = marked_law c.evict.new.self.places r.withdrawn c.args.number e.gone (λ n k h ne. r.lawful n k (sym (e.others n ne) ∙ h));
+      marks = (λ k h. ⊎_elim (λ q. omega (arith, q)) (λ ne. r.marks k (sym (get_or-set_other r.withdrawn c.args.number k _ false ne) ∙ h)) (cases_eq k c.args.number));
+      lawful = marked_law c.evict.new.self.places r.withdrawn c.args.number _ e.gone (λ n k h ne. r.lawful n k (sym (e.others n ne) ∙ h));
     }
 
 pub returns : goal.returns

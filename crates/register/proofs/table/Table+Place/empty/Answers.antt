@@ -1,5 +1,6 @@
-use Rattle.std.proofs.Common.{refl}
+use Rattle.std.proofs.Common.{replicate, ap, rules}
+use Rattle.register.proofs.Fresh.{is_unused}
 use Rattle.register.proofs.table.Table+Place.empty.Goals as goal
 
 pub returns : goal.returns
-returns c = (_, refl, refl)
+returns c = ap (replicate 32) (is_unused _ (search rules) (search rules) (search rules) (search rules))

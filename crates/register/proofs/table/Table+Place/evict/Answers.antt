@@ -2,7 +2,7 @@ use Rattle.std.proofs.Common.{length, refl, ap, ◌∙◌}
 use Rattle.std.proofs.lemmas.List.{length-set}
 use Rattle.register.proofs.Changes.{held-some}
 use Rattle.register.proofs.Held.{nowhere_held}
-use Rattle.register.proofs.Laws.{freed_here, freed_others, freed_once, freed_free, freed_stays}
+use Rattle.register.proofs.Laws.{freed_here, freed_others, freed_once, freed_free, freed_stays, counts_set}
 use Rattle.register.proofs.table.Table+Place.evict.Goals as goal
 
 pub returns-in-Some : goal.returns-in-Some
@@ -20,6 +20,7 @@ returns-in-Some c =
       long = ap length e ∙ simp length-set;
       freed = rw e (freed_free ps i n o.0 b o.2 c.requires.apart);
       stays = rw e (freed_stays ps i n o.0 b o.2);
+      counts = rw e (counts_set ps i o.0 o.3);
     }
 
 pub returns-in_default : goal.returns-in_default
@@ -32,4 +33,5 @@ returns-in_default c =
       long = refl;
       freed = λ j b. absurd (held-some c.args.self.now.places j c.args.number b none);
       stays = λ j b. refl;
+      counts = λ j. refl;
     }

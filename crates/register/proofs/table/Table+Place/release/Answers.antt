@@ -1,5 +1,5 @@
-use Rattle.std.proofs.Common.{refl}
+use Rattle.std.proofs.Common.{refl, rules}
 use Rattle.register.proofs.table.Table+Place.release.Goals as goal
 
 pub returns : goal.returns
-returns c = (_, refl, refl)
+returns c = (_, refl, refl, search rules, search rules, search rules)
